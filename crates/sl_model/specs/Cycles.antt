@@ -1,0 +1,2 @@
+-- The issue rule.
+use Rattle.std.specs.Prelude.{ℕ}

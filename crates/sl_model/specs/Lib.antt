@@ -1,0 +1,4 @@
+pub mod Register
+pub mod Source
+pub mod Cycles
+pub mod Text

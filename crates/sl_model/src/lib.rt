@@ -1,0 +1,7 @@
+//! What slothy's theorems mean: the plain data that they speak of, in `src/`, and the definitions, in
+//! `specs/`. There is no code here.
+#![tactic(auto)]
+
+pub mod instruction;
+pub mod register;
+pub mod schedule;
