@@ -1,29 +1,48 @@
--- Where the value of an operand comes from: from the last output in its register above it, or from
--- before the first item. Source: the definition of dataflow of any optimizing compiler, for a straight list.
-use Rattle.std.specs.Prelude.{ℕ, ◌+◌, List, [], ◌∷◌, length, Option, None, Some, if◌then◌else◌}
+-- Where the value of an operand comes from: the last output in its register above it, or what the register held
+-- before the first item. Source: reaching definitions, for a straight list.
+use Rattle.std.specs.Prelude.{ℕ, ◌+◌, List, [], ◌∷◌, length, take, map, reverse, slice_index_or, Option, None, Some, false, if◌then◌else◌}
+use Rattle.std.specs.List.{filter_map}
 use Rattle.sl_model.specs.declared.register.Reg.{Reg}
 use Rattle.sl_model.specs.declared.instruction.Instr.{Instr}
 use Rattle.sl_model.specs.declared.schedule.Source.{Source}
 use Rattle.sl_model.specs.declared.schedule.Source.TheVariants.{Entry, Item}
 use Rattle.sl_model.specs.Register.{same_reg}
 
--- at which place, counted from k, a register stands among outputs
-unfoldable pub place_from : ℕ → Reg → List (Option Reg) → Option ℕ
-place_from k r [] = None
-place_from k r (None ∷ outs) = place_from (k + 1) r outs
-place_from k r (Some out ∷ outs) = if same_reg out r then Some k else place_from (k + 1) r outs
+-- the registers that an instruction reads, and those that it writes, in their order
+abbrev pub operands : Instr → List Reg
+operands i = filter_map (λ r. r) i.ins
 
--- the place at which an instruction writes a register
-abbrev pub place_of : Reg → Instr → Option ℕ
-place_of r i = place_from 0 r i.outs
+abbrev pub outputs : Instr → List Reg
+outputs i = filter_map (λ r. r) i.outs
+
+-- at which place, counted from k, a register stands among outputs
+unfoldable pub place_from : ℕ → Reg → List Reg → Option ℕ
+place_from k r [] = None
+place_from k r (out ∷ outs) = if same_reg out r then Some k else place_from (k + 1) r outs
 
 -- an output of an item, where it has one at a place, else an earlier source
 abbrev pub output_or : ℕ → Option ℕ → Source → Source
 output_or item None earlier = earlier
 output_or item (Some place) earlier = Item item place
 
--- The source of a register below the items above, which are listed from the last to the first: so the
--- number of each is the count of those behind it.
+-- The source of a register below the items above, which are listed from the last to the first: so the number of each
+-- is the count of those behind it.
 unfoldable pub source_of : Reg → List Instr → Source
 source_of r [] = Entry r
-source_of r (i ∷ above) = output_or (length above) (place_of r i) (source_of r above)
+source_of r (i ∷ above) = output_or (length above) (place_from 0 r (outputs i)) (source_of r above)
+
+-- the instruction of no item
+abbrev pub no_instr : Instr
+no_instr = record { form = 0; wide = false; imms = []; ins = []; outs = []; tag = None; early = false; late = false; line = 0 }
+
+-- the item with a number
+abbrev pub item_at : List Instr → ℕ → Instr
+item_at items p = slice_index_or items p no_instr
+
+-- the sources of the operands of an item, in a straight list
+unfoldable pub list_sources : List Instr → ℕ → List Source
+list_sources items p = map (λ r. source_of r (reverse (take p items))) (operands (item_at items p))
+
+-- what stands in a register at the end of a list
+abbrev pub last_source : List Instr → Reg → Source
+last_source items r = source_of r (reverse items)

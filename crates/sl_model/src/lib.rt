@@ -5,3 +5,4 @@
 pub mod instruction;
 pub mod register;
 pub mod schedule;
+pub mod text;
