@@ -52,8 +52,8 @@ last_cycle (i ∷ done) = i.cycle
 pub record MayIssue (width unit ready : ℕ) (done : List Issued) (cycle : ℕ) : Type 0 where
   pub in_order : last_cycle done ≤ cycle
   pub slot : issued_at cycle done < width
-  pub operands : ready ≤ cycle
-  pub unit : unit_free unit done ≤ cycle
+  pub operands_ready : ready ≤ cycle
+  pub unit_is_free : unit_free unit done ≤ cycle
 
 -- a push, issued behind what was issued so far
 abbrev pub issue : Push → List Issued → Issued
