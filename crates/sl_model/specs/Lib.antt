@@ -2,3 +2,11 @@ pub mod Register
 pub mod Source
 pub mod Cycles
 pub mod Text
+pub mod State
+pub mod Isa
+pub mod Exec
+pub mod Body
+pub mod RegSets
+pub mod Lawful
+pub mod Legal
+pub mod Program

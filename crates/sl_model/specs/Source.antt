@@ -1,6 +1,6 @@
 -- Where the value of an operand comes from: the last output in its register above it, or what the register held
 -- before the first item. Source: reaching definitions, for a straight list.
-use Rattle.std.specs.Prelude.{ℕ, ◌+◌, List, [], ◌∷◌, length, take, map, reverse, slice_index_or, Option, None, Some, false, if◌then◌else◌}
+use Rattle.std.specs.Prelude.{ℕ, zero, suc, ◌+◌, List, [], ◌∷◌, length, take, map, reverse, slice_index_or, Option, None, Some, false, if◌then◌else◌}
 use Rattle.std.specs.List.{filter_map}
 use Rattle.sl_model.specs.declared.register.Reg.{Reg}
 use Rattle.sl_model.specs.declared.instruction.Instr.{Instr}
@@ -14,6 +14,12 @@ operands i = filter_map (λ r. r) i.ins
 
 abbrev pub outputs : Instr → List Reg
 outputs i = filter_map (λ r. r) i.outs
+
+-- registers in so many places, as an instruction has them: where there are fewer, the last places are empty
+abbrev pub padded : ℕ → List Reg → List (Option Reg)
+padded zero regs = []
+padded (suc n) [] = None ∷ padded n []
+padded (suc n) (r ∷ regs) = Some r ∷ padded n regs
 
 -- at which place, counted from k, a register stands among outputs
 unfoldable pub place_from : ℕ → Reg → List Reg → Option ℕ

@@ -3,6 +3,7 @@
 #![tactic(auto)]
 
 pub mod instruction;
+pub mod problem;
 pub mod register;
 pub mod schedule;
 pub mod text;

@@ -1,0 +1,2 @@
+//! A schedule as a list of instructions, and that it computes the same.
+#![tactic(auto)]

@@ -1,0 +1,88 @@
+-- Which instructions an instruction set has, and what is asked of it.
+use Rattle.std.specs.Prelude.{ℕ, Bool, true, false, pos, ◌/◌, ◌%◌, ◌^◌, nat_lt, ◌<◌, ◌≤◌, ◌≡◌, ◌≤ℤ◌, ◌+ℤ◌, List, length, slice_get, Option, None, Some, if◌then◌else◌}
+use Rattle.std.specs.List.{list_all, list_any, zip}
+use Rattle.sl_model.specs.declared.register.Bank.{Bank}
+use Rattle.sl_model.specs.declared.register.Bank.TheVariants.{General, Vector, Flags, Stack}
+use Rattle.sl_model.specs.declared.register.Reg.{Reg}
+use Rattle.sl_model.specs.declared.register.RegSet.{RegSet}
+use Rattle.sl_model.specs.declared.instruction.Instr.{Instr}
+use Rattle.sl_model.specs.Register.{same_reg}
+use Rattle.sl_model.specs.RegSets.{set_has, set_count}
+use Rattle.sl_model.specs.Source.{operands, outputs, padded}
+use Rattle.sl_model.specs.Isa.{Isa, Op, op_of}
+use Rattle.sl_model.specs.Exec.{has_access, is_load, is_store}
+use Rattle.sl_model.specs.Body.{all_differ}
+
+-- the zero register of AArch64
+abbrev pub zero_register : Reg
+zero_register = record { bank = General; symbolic = false; number = 31 }
+
+-- a register of a bank that a set has, if any: the sets of a form are of one bank, or of the stack pointer beside it
+abbrev pub bank_bits : Bank → RegSet → ℕ
+bank_bits General set = set.bits % 2 ^ 32
+bank_bits Vector set = set.bits / 2 ^ 32 % 2 ^ 32
+bank_bits Flags set = set.bits / 2 ^ 64 % 2
+bank_bits Stack set = set.bits / 2 ^ 65 % 2
+
+-- Has a set a register of a bank?
+abbrev pub is_of_bank : Bank → RegSet → Bool
+is_of_bank bank set = nat_lt 0 (bank_bits bank set)
+
+-- May a register stand where a form takes those of a set? A symbolic register may where one of its bank may.
+abbrev pub suits_set : Reg × RegSet → Bool
+suits_set (r, set) = if r.symbolic then is_of_bank r.bank set else set_has set r
+
+abbrev pub is_some_reg : Option Reg → Reg → Bool
+is_some_reg None r = false
+is_some_reg (Some q) r = same_reg q r
+
+abbrev pub is_reg_at : List Reg → ℕ → Reg → Bool
+is_reg_at regs k r = is_some_reg (slice_get regs k) r
+
+-- Is an output that is tied to an operand in the register of that operand?
+abbrev pub is_tied_to : List Reg → Reg × Option ℕ → Bool
+is_tied_to ins (r, None) = true
+is_tied_to ins (r, Some operand) = is_reg_at ins operand r
+
+-- An instruction of an instruction set: there is its form with its numbers; it has a register for each operand and each
+-- output, of their classes; its outputs differ; and tied outputs are in the registers of their operands.
+pub record IsValid (isa : Isa) (i : Instr) : Type 0 where
+  pub op : isa.valid (op_of i) ≡ true
+  pub ins_shape : i.ins ≡ padded 4 (operands i)
+  pub outs_shape : i.outs ≡ padded 3 (outputs i)
+  pub operand_count : length (operands i) ≡ set_count (isa.info i.form).in_sets
+  pub output_count : length (outputs i) ≡ set_count (isa.info i.form).out_sets
+  pub operand_classes : list_all suits_set (zip (operands i) (isa.info i.form).in_sets) ≡ true
+  pub output_classes : list_all suits_set (zip (outputs i) (isa.info i.form).out_sets) ≡ true
+  pub distinct : all_differ (outputs i) ≡ true
+  pub tied : list_all (is_tied_to (operands i)) (zip (outputs i) (isa.info i.form).tied) ≡ true
+
+-- Do values fit the banks of registers?
+abbrev pub fit : Isa → List Reg → List ℕ → Bool
+fit isa regs values = list_all (λ x. nat_lt x.1 (isa.limit x.0.bank)) (zip regs values)
+
+-- how many bytes a form loads
+abbrev pub load_size : Isa → ℕ → ℕ
+load_size isa form = if is_load (isa.info form) then (isa.info form).size else 0
+
+-- there is a number, below a limit
+abbrev pub IsBelow : Option ℕ → ℕ → Type 0
+IsBelow None limit = ⊥
+IsBelow (Some k) limit = k < limit
+
+-- What is asked of an instruction set.
+pub record IsLawful (isa : Isa) : Type 0 where
+  -- an access is far smaller than the space of addresses, and so are offsets
+  pub space : 2 ^ 32 ≤ isa.space
+  pub sizes : (form : ℕ) → (isa.info form).size ≤ 32
+  pub offset_low : (o : Op) → isa.valid o ≡ true → pos 0 ≤ℤ (isa.offset o +ℤ pos (2 ^ 20))
+  pub offset_high : (o : Op) → isa.valid o ≡ true → isa.offset o ≤ℤ pos (2 ^ 20)
+  -- no form writes the zero register
+  pub writable : (form : ℕ) → list_any (λ set. set_has set zero_register) (isa.info form).out_sets ≡ false
+  -- a form with an access has a base among its operands
+  pub base : (form : ℕ) → has_access (isa.info form) ≡ true → IsBelow (isa.info form).base (set_count (isa.info form).in_sets)
+  -- there is a value for each output, and it fits its register
+  pub value_count : (i : Instr) (ins loaded : List ℕ) → IsValid isa i → length ins ≡ length (operands i) → length loaded ≡ load_size isa i.form → length (isa.values (op_of i) ins loaded) ≡ length (outputs i)
+  pub values_fit : (i : Instr) (ins loaded : List ℕ) → IsValid isa i → length ins ≡ length (operands i) → length loaded ≡ load_size isa i.form → fit isa (operands i) ins ≡ true → fit isa (outputs i) (isa.values (op_of i) ins loaded) ≡ true
+  -- a store stores as many bytes as its access has
+  pub stored_count : (i : Instr) (ins : List ℕ) → IsValid isa i → is_store (isa.info i.form) ≡ true → length ins ≡ length (operands i) → length (isa.stored (op_of i) ins) ≡ (isa.info i.form).size
