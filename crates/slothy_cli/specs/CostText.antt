@@ -1,0 +1,50 @@
+-- The text of `cost` for a straight region on the core `one:L`.
+use Rattle.std.specs.Prelude.{ℕ, ◌+◌, List, [], ◌∷◌, ◌++◌, length, map, reverse, replicate, codes, None}
+use Rattle.std.specs.Fmt.{decimal}
+use Rattle.sl_model.specs.declared.instruction.Instr.{Instr}
+use Rattle.sl_model.specs.declared.schedule.Choice.{Choice}
+use Rattle.sl_model.specs.declared.schedule.CostRow.{CostRow}
+use Rattle.sl_model.specs.Source.{item_at, list_sources}
+use Rattle.sl_model.specs.Cycles.{CostTable, Issued, timed, cycle_count, stalls}
+use Rattle.sl_model.specs.Legal.{numbers_below}
+use Rattle.sl_isa.specs.ThreeForms.{spelling, plain_of}
+
+-- The core `one:L`: one unit takes an item in each cycle, keeps it for one, and each result is ready after L cycles.
+abbrev pub plain_row : ℕ → CostRow
+plain_row latency = record { class = 0; units = 1; busy = 1; latency = latency; writeback = latency; back = None }
+
+abbrev pub plain_costs : ℕ → ℕ → CostTable
+plain_costs latency items = record { width = 1; rows = replicate items (plain_row latency); forwards = [] }
+
+-- an item where it stands: on the one unit, its outputs in their own registers
+abbrev pub own_choice : List Instr → ℕ → Choice
+own_choice items p = record { item = p; unit = 0; outs = (item_at items p).outs }
+
+-- the items as they stand
+abbrev pub own_schedule : List Instr → List Choice
+own_schedule items = map (own_choice items) (numbers_below (length items))
+
+-- when they are issued, the last first
+unfoldable pub own_times : ℕ → List Instr → List Issued
+own_times latency items = timed (plain_costs latency (length items)) (list_sources items) (own_schedule items)
+
+-- the line of an item: its cycle, its unit, its number, its line in the file, and how it is printed
+abbrev pub cost_line : ℕ → Instr → Issued → List ℕ
+cost_line number i issued =
+    codes "c=" ++ (decimal issued.cycle ++ (codes " u=u i=" ++ (decimal number ++ (codes " line=" ++ (decimal i.line ++ (codes " " ++ (spelling (plain_of i) ++ codes "\n")))))))
+
+-- the lines of items from a number on
+unfoldable pub cost_lines : ℕ → List Instr → List Issued → List ℕ
+cost_lines number [] times = []
+cost_lines number (i ∷ items) [] = []
+cost_lines number (i ∷ items) (issued ∷ times) = cost_line number i issued ++ cost_lines (number + 1) items times
+
+-- how many items there are, the cycles that they take and the stalls among these
+abbrev pub cost_head : ℕ → List Issued → List ℕ
+cost_head items times =
+    codes "kind=straight n=" ++ (decimal items ++ (codes " cycles=" ++ (decimal (cycle_count times) ++ (codes " stalls=" ++ (decimal (stalls 1 times) ++ codes "\n")))))
+
+-- the text of `cost`: its head, and a line for each item
+unfoldable pub cost_text : ℕ → List Instr → List ℕ
+cost_text latency items =
+    cost_head (length items) (own_times latency items) ++ cost_lines 0 items (reverse (own_times latency items))

@@ -1,0 +1,5 @@
+pub mod Command
+pub mod CostText
+pub mod Outcome
+pub mod Messages
+pub mod Ending

@@ -1,0 +1,60 @@
+//! The words of a command.
+ghost use Rattle.std.specs.Prelude.{◌≡◌, ◌≤◌, List, ℕ, map, Option, Some, None, string_bytes, option_map, IfSome};
+ghost use Rattle.std.specs.List.{list_all};
+ghost use Rattle.std.specs.Char.{is_ascii_digit};
+ghost use Rattle.slothy_cli.specs.Command.{CostCommand as Cost, command_of, latency_of, latency_from, is_counting, is_name};
+
+/// `cost NAME --core one:L`.
+#[derive(Clone, Copy, Debug)]
+pub struct CostCommand<'a> {
+    /// The name of the file.
+    pub name: &'a str,
+    /// The latency of the core, from 1 to 255 cycles.
+    pub latency: u8,
+}
+
+// Are these all digits?
+fn are_digits(digits: &[u8]) -> bool
+    ensures { result ≡ list_all is_ascii_digit digits.now }
+{
+    digits.iter().all(|c| c.is_ascii_digit())
+}
+
+// Do these spell a number from 1 on: digits alone, at least one, and the first isn't 0?
+fn is_counting(digits: &[u8]) -> bool
+    ensures { result ≡ is_counting digits.now }
+{
+    let [first, ..] = digits else {
+        return false;
+    };
+    *first != b'0' && are_digits(digits)
+}
+
+// The latency behind `one:`.
+#[tactic(auto, unfolding(crate::specs::Command::latency_from))]
+fn latency_from(digits: &str) -> Option<u8>
+    ensures { result ≡ latency_from digits.now }
+{
+    if !is_counting(digits.as_bytes()) {
+        return None;
+    }
+    digits.parse::<u8>().ok()
+}
+
+// The latency of the core that a word `one:L` names.
+#[tactic(auto, unfolding(crate::specs::Command::latency_of))]
+fn latency_of(word: &str) -> Option<u8>
+    ensures { result ≡ latency_of word.now }
+{
+    latency_from(word.strip_prefix("one:")?)
+}
+
+// Is a word a file name: not empty, and no option?
+fn is_name(word: &str) -> bool
+    ensures { result ≡ is_name word.now }
+{
+    let [first, ..] = word.as_bytes() else {
+        return false;
+    };
+    *first != b'-'
+}

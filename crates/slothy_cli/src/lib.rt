@@ -1,0 +1,6 @@
+//! The command: from words to the bytes on standard output.
+#![tactic(auto)]
+
+pub mod command;
+pub mod status;
+pub mod stop;

@@ -1,0 +1,59 @@
+//! How a call ends.
+
+ghost use Rattle.std.specs.Prelude.{◌≡◌};
+ghost use Rattle.slothy_cli.specs.Messages.{code_of};
+
+use crate::stop::Stop;
+
+/// The status that the program ends with.
+#[derive(Clone, Copy, Debug, PartialEq, Eq)]
+pub enum Status {
+    /// The text was written whole.
+    Done,
+    /// There is no schedule with so few stalls.
+    Infeasible,
+    /// The words are wrong.
+    Usage,
+    /// An input is outside its grammar.
+    Refused,
+    /// The budget of the search was spent.
+    Budget,
+    /// A file couldn't be read.
+    ReadFault,
+    /// The output didn't take the whole text.
+    WriteFault,
+    /// Memory ran out.
+    NoMemory,
+    /// The new region isn't a schedule of the old one.
+    CheckNo,
+    /// A quantity passes its limit.
+    TooLarge,
+    /// The loop would run more often than allowed.
+    TurnsSpent,
+}
+
+impl Status {
+    /// The number that stands for the status, from 0 for `Done` to 10 for `TurnsSpent`, in their order.
+    pub fn code(&self) -> u8
+        ensures { result ≡ code_of self.now }
+    {
+        *self as u8
+    }
+}
+
+/// How a call ended, with its cause.
+#[derive(Clone, Copy, Debug, PartialEq, Eq)]
+pub enum Ending {
+    /// The text was written whole.
+    Done,
+    /// The words are wrong.
+    Usage,
+    /// There is no text for this input.
+    Stopped(Stop),
+    /// The file couldn't be read.
+    ReadFault,
+    /// The output took `sent` bytes of the text and then failed.
+    WriteFault { sent: u64 },
+    /// Memory ran out.
+    NoMemory,
+}
