@@ -1,0 +1,13 @@
+//! What the program asks of the world: files that are read, sinks that are written, and the counts of
+//! their faults. Everything above is generic in these traits, so that a proof or a test stands in for them.
+#![tactic(auto)]
+
+pub mod files;
+pub mod reading;
+pub mod sink;
+pub mod writing;
+
+pub use files::{ChooseErr, Failed, Files, NoMemory};
+pub use reading::{ReadErr, read_all};
+pub use sink::Sink;
+pub use writing::{WriteErr, write_all};
