@@ -3,11 +3,13 @@
 #![tactic(auto)]
 
 pub mod files;
+pub mod memory_sink;
 pub mod reading;
 pub mod sink;
 pub mod writing;
 
 pub use files::{ChooseErr, Failed, Files, NoMemory};
+pub use memory_sink::MemSink;
 pub use reading::{ReadErr, read_all};
 pub use sink::Sink;
 pub use writing::{WriteErr, write_all};
