@@ -3,12 +3,14 @@
 #![tactic(auto)]
 
 pub mod files;
+pub mod memory_files;
 pub mod memory_sink;
 pub mod reading;
 pub mod sink;
 pub mod writing;
 
 pub use files::{ChooseErr, Failed, Files, NoMemory};
+pub use memory_files::MemFiles;
 pub use memory_sink::MemSink;
 pub use reading::{ReadErr, read_all};
 pub use sink::Sink;
