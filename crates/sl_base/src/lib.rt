@@ -21,3 +21,6 @@ pub use reading::{ReadErr, read_all};
 pub use sink::Sink;
 pub use steps::{Steps, tick};
 pub use writing::{WriteErr, write_all};
+
+#[cfg(test)]
+mod tests;
