@@ -15,8 +15,8 @@ module _ {Y Z : Type 0} where
       → file_named (map plain_file (drop place files)) name ≡ Some (bytes_at files place)
   file_named-here files place file name within is same =
       let cut : drop place files ≡ file ∷ drop (suc place) files =
-        drop-cons files place file within ∙ ap (λ f. f ∷ drop (suc place) files) (sym is) in
+      drop-cons files place file within ∙ ap (λ f. f ∷ drop (suc place) files) (sym is) in
       let rest = file_named (map plain_file (drop (suc place) files)) name in
       ap (λ l. file_named (map plain_file l) name) cut
-        ∙ ap (λ b. if b then Some file.1.items else rest) same
-        ∙ ap (λ o. Some (option_map_or (λ f. f.1.items) o [])) (sym (slice_get_read files (length files) place file refl within is))
+      ∙ ap (λ b. if b then Some file.1.items else rest) same
+      ∙ ap (λ o. Some (option_map_or (λ f. f.1.items) o [])) (sym (slice_get_read files (length files) place file refl within is))

@@ -23,4 +23,4 @@ pub append_known-more : (before now new : Option (List ℕ)) (bytes : List ℕ) 
 append_known-more before now new bytes sent n first second =
     let piece : List ℕ = take n (take (length bytes - sent) (drop sent bytes)) in
     second ∙ ap (λ o. append_known o piece) first ∙ append_known-twice before (take sent bytes) piece
-      ∙ ap (append_known before) (take-more bytes sent n)
+    ∙ ap (append_known before) (take-more bytes sent n)

@@ -44,7 +44,7 @@ read_count state room = min room (length state.left)
 
 -- whether the next read fails: its call is to fail, or the count of bytes given would pass its last value
 abbrev pub read_fails : MemoryFiles → ℕ → Bool
-read_fails state room = fails_at state.fails state.calls || nat_lt (2 ^ 64 - 1 - state.given) (read_count state room)
+read_fails state room = fails_at state.fails state.calls || nat_lt (2 ^ 64 - 1) (state.given + read_count state room)
 
 -- the files after a read that gave n bytes
 abbrev pub after_read : MemoryFiles → ℕ → MemoryFiles

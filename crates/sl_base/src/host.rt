@@ -59,7 +59,10 @@ impl<R: fs::Files + Input + Drop> HostFiles<R> {
 }
 
 /// Opens the file of that name, or standard input.
-fn open<R: fs::Files + Input + Drop>(rt: &R, name: &str) -> Result<Source<R::File, R::Reader>, Failed> {
+fn open<R: fs::Files + Input + Drop>(
+    rt: &R,
+    name: &str,
+) -> Result<Source<R::File, R::Reader>, Failed> {
     if name == STANDARD_INPUT {
         return Ok(Source::Input(rt.reader()));
     }
@@ -70,7 +73,10 @@ fn open<R: fs::Files + Input + Drop>(rt: &R, name: &str) -> Result<Source<R::Fil
 }
 
 /// The next bytes of what is open, none where nothing is.
-fn read_some<F: Read + Drop, I: Read + Drop>(source: &mut Source<F, I>, buffer: &mut [u8]) -> Result<usize, Failed>
+fn read_some<F: Read + Drop, I: Read + Drop>(
+    source: &mut Source<F, I>,
+    buffer: &mut [u8],
+) -> Result<usize, Failed>
     ensures { IfOk result (λ n. n ≤ length buffer.old) }
 {
     let given = match source {
@@ -112,7 +118,9 @@ impl<R: fs::Files + Input + Drop> Files for HostFiles<R> {
     }
 
     fn read(&mut self, buffer: &mut [u8]) -> Result<usize, Failed> {
-        if let Ok(count) = read_some(&mut self.source, buffer) && let Some(given) = self.given.checked_add(count as u64) {
+        if let Ok(count) = read_some(&mut self.source, buffer)
+            && let Some(given) = self.given.checked_add(count as u64)
+        {
             self.given = given;
             return Ok(count);
         }
@@ -157,7 +165,9 @@ impl<P: Print + Drop> Sink for HostStream<P> {
     ghost faults = { λ s. s };
 
     fn write(&mut self, bytes: &[u8]) -> Result<usize, Failed> {
-        if let Ok(count) = self.stream.write_some(bytes) && (count > 0 || bytes.is_empty()) {
+        if let Ok(count) = self.stream.write_some(bytes)
+            && (count > 0 || bytes.is_empty())
+        {
             return Ok(count);
         }
         self.faults = self.faults.saturating_add(1);

@@ -30,14 +30,14 @@ impl Model for MemFiles {
     ghost Value = { MemoryFiles };
 
     ghost view = { λ s. record {
-        files = map plain_file s.files.items;
-        fails = s.fails.items;
-        calls = s.calls;
-        chosen = string_bytes s.chosen;
-        left = drop s.start (bytes_at s.files.items s.place);
-        given = s.given;
-        broken = s.broken;
-        faults = s.faults
+      files = map plain_file s.files.items;
+      fails = s.fails.items;
+      calls = s.calls;
+      chosen = string_bytes s.chosen;
+      left = drop s.start (bytes_at s.files.items s.place);
+      given = s.given;
+      broken = s.broken;
+      faults = s.faults;
     } };
 
     ghost invariant = { λ s. s.start ≤ length (bytes_at s.files.items s.place) };

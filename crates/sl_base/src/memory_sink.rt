@@ -26,12 +26,12 @@ impl Model for MemSink {
     ghost Value = { MemorySink };
 
     ghost view = { λ s. record {
-        taken = s.taken.items;
-        fails = s.fails.items;
-        most = s.most;
-        room = s.room;
-        calls = s.calls;
-        faults = s.faults
+      taken = s.taken.items;
+      fails = s.fails.items;
+      most = s.most;
+      room = s.room;
+      calls = s.calls;
+      faults = s.faults;
     } };
 
     ghost invariant = { λ s. (0 < s.most) × (vec_len s.taken ≤ s.room) × (s.room ≤ vec_capacity s.taken) };
@@ -39,7 +39,12 @@ impl Model for MemSink {
 
 impl MemSink {
     /// A sink that takes at most `most` bytes at once, which is at least 1, and `room` in all.
-    pub fn new(alloc: Global, fails: Vec<u64>, most: usize, room: usize) -> Result<MemSink, NoMemory>
+    pub fn new(
+        alloc: Global,
+        fails: Vec<u64>,
+        most: usize,
+        room: usize,
+    ) -> Result<MemSink, NoMemory>
         requires { 0 < most }
         ensures { IfOk result (λ sink. sink ≡ record { taken = []; fails = fails.items; most = most; room = room; calls = 0; faults = 0 }) }
     {

@@ -1,5 +1,5 @@
 //! Reading a whole file.
-ghost use Rattle.std.specs.Prelude.{◌≡◌, ℕ, ◌<◌, ◌≤◌, true, List, length, Some, IfOk, OnOk, vec_len};
+ghost use Rattle.std.specs.Prelude.{◌≡◌, ℕ, ◌<◌, ◌≤◌, true, false, List, length, Some, IfOk, OnOk, vec_len};
 ghost use Rattle.sl_base.specs.Faults.{HasRisen};
 ghost use Rattle.sl_base.specs.Reading.{OnReadFault, IfTooLong};
 
@@ -36,6 +36,8 @@ pub fn read_all<F: Files>(
     ensures ok_bound { IfOk result (λ v. vec_len v ≤ limit) }
     ensures ok_told { (bytes : List ℕ) → F.holds files.old name.now ≡ Some bytes → IfOk result (λ v. v.items ≡ bytes) }
     ensures ok_chosen { OnOk result (F.chosen files.new ≡ name.now) }
+    ensures ok_broken { OnOk result (F.broken files.new ≡ false) }
+    ensures ok_given { IfOk result (λ v. F.given files.new ≡ vec_len v) }
     ensures ok_faults { OnOk result (F.faults files.new ≡ F.faults files.old) }
     ensures fault_risen { OnReadFault result (HasRisen (F.faults files.old) (F.faults files.new)) }
     ensures fault_chosen { OnReadFault result (F.chosen files.new ≡ name.now) }
@@ -60,6 +62,8 @@ fn read_rest<F: Files>(alloc: Global, files: &mut F, limit: u64) -> Result<Vec<u
     ensures never_falls { F.faults files.old ≤ F.faults files.new }
     ensures ok_bound { IfOk result (λ v. vec_len v ≤ limit) }
     ensures ok_told { (bytes : List ℕ) → F.left files.old ≡ Some bytes → IfOk result (λ v. v.items ≡ bytes) }
+    ensures ok_broken { OnOk result (F.broken files.new ≡ F.broken files.old) }
+    ensures ok_given { IfOk result (λ v. F.given files.new ≡ vec_len v) }
     ensures ok_faults { OnOk result (F.faults files.new ≡ F.faults files.old) }
     ensures fault_risen { OnReadFault result (HasRisen (F.faults files.old) (F.faults files.new)) }
     ensures fault_broken { OnReadFault result (F.broken files.new ≡ true) }

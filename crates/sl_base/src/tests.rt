@@ -1,4 +1,6 @@
-use crate::{HostErr, HostFiles, HostOut, MemFiles, MemSink, ReadErr, WriteErr, read_all, write_all};
+use crate::{
+    HostErr, HostFiles, HostOut, MemFiles, MemSink, ReadErr, WriteErr, read_all, write_all,
+};
 use std::alloc::{AllocError, Global};
 use std::test::Fail;
 
@@ -37,7 +39,14 @@ fn a_fault_at_each_call(rt: HostRuntime) -> Result<(), Fail> {
     let alloc = rt.alloc();
     for call in 0..6 {
         let read = read_all(alloc, &mut memory(alloc, &[call])?, "long", 5000);
-        assert_eq!(rt; read.err(), if call < 4 { Some(ReadErr::ReadFault) } else { None });
+        assert_eq!(rt;
+            read.err(),
+            if call < 4 {
+                Some(ReadErr::ReadFault)
+            } else {
+                None
+            }
+        );
     }
     Ok(())
 }
@@ -74,9 +83,18 @@ fn short_writes_and_room(rt: HostRuntime) -> Result<(), Fail> {
 fn the_systems_files_and_streams(rt: HostRuntime) -> Result<(), Fail> {
     let alloc = rt.alloc();
     let mut files = HostFiles::new(alloc, &rt);
-    assert_eq!(rt; read_all(alloc, &mut files, "/dev/null", 0).as_deref(), Ok([].as_slice()));
-    assert_eq!(rt; read_all(alloc, &mut files, "/dev/zero", 9).err(), Some(ReadErr::TooLong { limit: 9 }));
-    assert_eq!(rt; read_all(alloc, &mut files, "/nowhere/at all", 9).err(), Some(ReadErr::ReadFault));
+    assert_eq!(rt;
+        read_all(alloc, &mut files, "/dev/null", 0).as_deref(),
+        Ok([].as_slice())
+    );
+    assert_eq!(rt;
+        read_all(alloc, &mut files, "/dev/zero", 9).err(),
+        Some(ReadErr::TooLong { limit: 9 })
+    );
+    assert_eq!(rt;
+        read_all(alloc, &mut files, "/nowhere/at all", 9).err(),
+        Some(ReadErr::ReadFault)
+    );
     assert_eq!(rt; write_all(&mut HostOut::new(rt.stdout()), b"out\n"), Ok(()));
     assert_eq!(rt; write_all(&mut HostErr::new(rt.stderr()), b"err\n"), Ok(()));
     Ok(())

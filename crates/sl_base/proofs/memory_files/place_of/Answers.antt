@@ -8,4 +8,4 @@ pub returns-then-eq : goal.returns-then-eq
 returns-then-eq c =
     let test = ap (λ text. bytes_eq text c.args.name.now) (sym c.as_str.ensures.value) ∙ sym c.eq.ensures ∙ c.if-eq.true in
     sym c.loop-place.invariant ∙ file_named-here c.args.files.now c.loop-place.place c.index-files-place.result c.args.name.now
-      c.loop-place-test.true c.index-files-place.is test
+    c.loop-place-test.true c.index-files-place.is test

@@ -7,5 +7,5 @@ pub loop-sent-preserved : goal.loop-sent-preserved
 loop-sent-preserved g c = record {
   sent = omega (arith, c.in-Ok.ensures.ok_bound);
   faults = c.in-Ok.ensures.ok_faults ∙ c.loop-sent.invariant.faults;
-  taken = append_known-more _ _ _ c.args.bytes.now _ _ c.loop-sent.invariant.taken c.in-Ok.ensures.ok_taken
+  taken = append_known-more _ _ _ c.args.bytes.now _ _ c.loop-sent.invariant.taken c.in-Ok.ensures.ok_taken;
 }

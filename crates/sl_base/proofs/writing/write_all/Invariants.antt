@@ -7,7 +7,7 @@ abbrev pub invariant-loop-sent : goal.invariant-loop-sent
 invariant-loop-sent g l = record {
   sent : l.sent ≤ length l.bytes;
   faults : g.S.Sink.faults l.sink ≡ g.S.Sink.faults l.initial.sink;
-  taken : g.S.Sink.taken l.sink ≡ append_known (g.S.Sink.taken l.initial.sink) (take l.sent l.bytes)
+  taken : g.S.Sink.taken l.sink ≡ append_known (g.S.Sink.taken l.initial.sink) (take l.sent l.bytes);
 }
 
 abbrev pub decreases-loop-sent : goal.decreases-loop-sent
