@@ -1,5 +1,5 @@
 -- Facts about the errors of files, by cases.
-use Rattle.std.specs.Prelude.{◌≡◌, ℕ, Result, MatchResult, ⊤}
+use Rattle.std.specs.Prelude.{Result, MatchResult, ⊤}
 use Rattle.sl_base.specs.declared.files.ChooseErr.{ChooseErr}
 use Rattle.sl_base.specs.declared.files.ChooseErr.TheVariants.{Failed, NoMemory}
 

@@ -1,5 +1,5 @@
 -- The files of a `MemFiles` as plain lists.
-use Rattle.std.specs.Prelude.{ℕ, List, [], map, slice_get, String, string_bytes, Vec}
+use Rattle.std.specs.Prelude.{ℕ, List, [], slice_get, String, string_bytes, Vec}
 use Rattle.std.specs.Option.{option_map_or}
 
 module _ {Y Z : Type 0} where
