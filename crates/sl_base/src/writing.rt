@@ -1,5 +1,5 @@
 //! Writing all bytes to a sink.
-ghost use Rattle.std.specs.Prelude.{◌≡◌, ◌≤◌, length, take, OnOk, OnErr, IfErr};
+ghost use Rattle.std.specs.Prelude.{◌≡◌, ◌<◌, ◌≤◌, length, take, OnOk, OnErr, IfErr};
 ghost use Rattle.std.specs.Io.KnownBytes.{append_known};
 ghost use Rattle.sl_base.specs.Faults.{HasRisen};
 
@@ -18,7 +18,7 @@ pub fn write_all<S: Sink>(sink: &mut S, bytes: &[u8]) -> Result<(), WriteErr>
     ensures ok_taken { OnOk result (S.taken sink.new ≡ append_known (S.taken sink.old) bytes.now) }
     ensures ok_faults { OnOk result (S.faults sink.new ≡ S.faults sink.old) }
     ensures err_risen { OnErr result (HasRisen (S.faults sink.old) (S.faults sink.new)) }
-    ensures err_sent { IfErr result (λ e. e.sent ≤ length bytes.now) }
+    ensures err_sent { IfErr result (λ e. e.sent < length bytes.now) }
     ensures err_taken { IfErr result (λ e. S.taken sink.new ≡ append_known (S.taken sink.old) (take e.sent bytes.now)) }
 {
     let mut sent = 0;
