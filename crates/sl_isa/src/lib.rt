@@ -1,0 +1,2 @@
+//! Instructions: reading and printing.
+#![tactic(auto)]
