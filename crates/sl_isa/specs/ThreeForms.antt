@@ -1,6 +1,6 @@
 -- The first instructions that are read: `add`, `sub` and `eor` of three x registers. Source: DDI 0487, A64 base instructions.
-use Rattle.std.specs.Prelude.{ℕ, ◌+◌, ◌==◌, ◌<◌, List, [], ◌∷◌, ◌++◌, codes, pos, map, find, Option, None, Some, false, if◌then◌else◌}
-use Rattle.std.specs.List.{flat_map, filter_map}
+use Rattle.std.specs.Prelude.{ℕ, zero, suc, ◌==◌, ◌<◌, List, [], ◌∷◌, ◌++◌, codes, pos, map, find, Option, None, Some, false, if◌then◌else◌}
+use Rattle.std.specs.List.{flat_map}
 use Rattle.std.specs.Option.{option_map}
 use Rattle.std.specs.Fmt.{decimal}
 use Rattle.std.specs.Str.{bytes_eq}
