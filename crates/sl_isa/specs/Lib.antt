@@ -1,1 +1,2 @@
 pub mod ThreeForms
+pub mod Steps
