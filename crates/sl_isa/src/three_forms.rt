@@ -1,7 +1,11 @@
 //! The first instructions: `add`, `sub` and `eor` of three x registers, read and printed.
 
-ghost use Rattle.std.specs.Prelude.{◌≡◌, ◌<◌, Some, None, MatchOption};
+ghost use Rattle.std.specs.Prelude.{◌≡◌, ◌<◌, Some, None, MatchOption, option_map};
 ghost use Rattle.sl_isa.specs.Steps.{behind, form_at, second_digit, number_at, register_at, parse};
+ghost use Rattle.sl_isa.specs.ThreeForms.{mnemonic, number_of, spelling, plain_instr, plain_of};
+
+use crate::{Bank, Instr, Reg};
+use std::fmt;
 
 
 
@@ -74,4 +78,75 @@ fn read_register(text: &[u8]) -> Option<Numbered>
     ensures { MatchOption result (register_at text.now ≡ None) (λ r. register_at text.now ≡ Some (record { number = r.number; rest = r.rest.now })) }
 {
     read_number(behind(b"x", text)?)
+}
+
+// The instruction of a form with these registers, on the line with this number.
+fn three_registers(form: u16, to: u16, left: u16, right: u16, line: u32) -> Instr
+    ensures { result ≡ plain_instr line (record { form = form; to = to; left = left; right = right }) }
+{
+    let general = |number| Some(Reg { bank: Bank::General, symbolic: false, number });
+    Instr {
+        form,
+        wide: false,
+        imms: [0; 3],
+        ins: [general(left), general(right), None, None],
+        outs: [general(to), None, None],
+        tag: None,
+        early: false,
+        late: false,
+        line,
+    }
+}
+
+// Reads a whole line.
+#[tactic(auto, unfolding(crate::specs::Steps::parse))]
+fn read_bytes(line: &[u8], number: u32) -> Option<Instr>
+    ensures { result ≡ option_map (plain_instr number) (parse line.now) }
+{
+    let text = behind(b"        ", line)?;
+    let form = read_form(text)?;
+    let to = read_register(form.rest)?;
+    let text = behind(b", ", to.rest)?;
+    let left = read_register(text)?;
+    let text = behind(b", ", left.rest)?;
+    let right = read_register(text)?;
+    if right.rest != b"\n".as_slice() {
+        return None;
+    }
+    Some(three_registers(form.number, to.number, left.number, right.number, number))
+}
+
+// The word of a form.
+fn mnemonic(form: u16) -> &'static str
+    ensures { result.now ≡ mnemonic form }
+{
+    match form {
+        0 => "add",
+        1 => "sub",
+        _ => "eor",
+    }
+}
+
+// The number of a register, and 0 where there is none.
+fn number_of(register: Option<Reg>) -> u16
+    ensures { result ≡ number_of register }
+{
+    register.map_or(0, |r| r.number)
+}
+
+/// How an instruction of the three forms is printed: the registers of its first output and its first two operands
+/// behind its mnemonic.
+pub struct Spelled<'a>(pub &'a Instr);
+
+#[tactic(auto, unfolding(crate::specs::ThreeForms::spelling))]
+impl fmt::Display for Spelled<'_> {
+    ghost output = { λ s. Some (spelling (plain_of s.0.now)) };
+
+    fn fmt<W: fmt::Write>(&self, f: &mut fmt::Formatter<W>) -> fmt::Result {
+        let word = mnemonic(self.0.form);
+        let to = number_of(self.0.outs[0]);
+        let left = number_of(self.0.ins[0]);
+        let right = number_of(self.0.ins[1]);
+        write!(f, "{word} x{to}, x{left}, x{right}")
+    }
 }
