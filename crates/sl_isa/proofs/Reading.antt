@@ -198,3 +198,91 @@ line_flat : (m to left right : List ℕ) →
     codes "        " ++ ((m ++ (codes " x" ++ (to ++ (codes ", x" ++ (left ++ (codes ", x" ++ right)))))) ++ codes "\n")
     ≡ codes "        " ++ (m ++ (codes " x" ++ (to ++ (codes ", x" ++ (left ++ (codes ", x" ++ (right ++ codes "\n")))))))
 line_flat m to left right = simp append_assoc
+
+pub record IsRegisterAt (text : List ℕ) (r : Numbered) : Type 0 where
+  pub within : r.number < 31
+  pub text_is : text ≡ codes "x" ++ (decimal r.number ++ r.rest)
+
+register_at_is : (text : List ℕ) (r : Numbered) → register_at text ≡ Some r → IsRegisterAt text r
+unfolding register_at
+register_at_is text r e =
+    option_and_then_some number_at (behind (codes "x") text) r e
+        (λ digits found read.
+            let number = number_at_is digits r read in
+            record { within = number.within; text_is = behind_is (codes "x") text digits found ∙ ap (λ v. codes "x" ++ v) number.text_is })
+
+register_at-printed : (n c : ℕ) (rest : List ℕ) → n < 31 → is_ascii_digit c ≡ false →
+    register_at (codes "x" ++ (decimal n ++ (c ∷ rest))) ≡ Some (record { number = n; rest = c ∷ rest })
+unfolding register_at
+register_at-printed n c rest h other =
+    ap (option_and_then number_at) (behind-append (codes "x") (decimal n ++ (c ∷ rest))) ∙ number_at-printed n c rest h other
+
+ended_is : (text : List ℕ) (p q : Plain) → ended text p ≡ Some q → (text ≡ codes "\n") × (p ≡ q)
+ended_is text p q e =
+    let parts = cond_some (bytes_eq text (codes "\n")) p q e in
+    ((bytes_eq-Decides text (codes "\n")).0 parts.0, parts.1)
+
+-- the parts of a line, one behind the other
+line_from_parts : (line m to left right body to_text to_rest left_text left_rest right_text right_rest : List ℕ) →
+    line ≡ codes "        " ++ body → body ≡ m ++ (32 ∷ to_text) → to_text ≡ codes "x" ++ (to ++ to_rest) →
+    to_rest ≡ codes ", " ++ left_text → left_text ≡ codes "x" ++ (left ++ left_rest) →
+    left_rest ≡ codes ", " ++ right_text → right_text ≡ codes "x" ++ (right ++ right_rest) → right_rest ≡ codes "\n" →
+    line ≡ codes "        " ++ (m ++ (codes " x" ++ (to ++ (codes ", x" ++ (left ++ (codes ", x" ++ (right ++ codes "\n")))))))
+line_from_parts line m to left right body to_text to_rest left_text left_rest right_text right_rest a b c d e f g h = cc
+
+body_line-flat : (p : Plain) →
+    body_line p ≡ codes "        " ++ (mnemonic p.form ++ (codes " x" ++ (decimal p.to ++ (codes ", x" ++ (decimal p.left ++ (codes ", x" ++ (decimal p.right ++ codes "\n")))))))
+unfolding body_line spelling
+body_line-flat p = line_flat (mnemonic p.form) (decimal p.to) (decimal p.left) (decimal p.right)
+
+-- what a line that is read spells
+pub record IsRead (line : List ℕ) (p : Plain) : Type 0 where
+  pub line_is : line ≡ body_line p
+  pub plain : IsPlain p
+
+pub parse_is : (line : List ℕ) (p : Plain) → parse line ≡ Some p → IsRead line p
+unfolding parse
+parse_is line p e =
+    option_and_then_some _ (behind (codes "        ") line) p e (λ body body_found e.
+    option_and_then_some _ (form_at body) p e (λ form form_found e.
+    option_and_then_some _ (register_at form.rest) p e (λ to to_found e.
+    option_and_then_some _ (behind (codes ", ") to.rest) p e (λ left_text left_text_found e.
+    option_and_then_some _ (register_at left_text) p e (λ left left_found e.
+    option_and_then_some _ (behind (codes ", ") left.rest) p e (λ right_text right_text_found e.
+    option_and_then_some _ (register_at right_text) p e (λ right right_found e.
+        let f = form_at_is body form form_found in
+        let t = register_at_is form.rest to to_found in
+        let l = register_at_is left_text left left_found in
+        let r = register_at_is right_text right right_found in
+        let end = ended_is right.rest (record { form = form.number; to = to.number; left = left.number; right = right.number }) p e in
+        let read : IsRead line (record { form = form.number; to = to.number; left = left.number; right = right.number }) = record {
+            line_is =
+                line_from_parts line (mnemonic form.number) (decimal to.number) (decimal left.number) (decimal right.number)
+                    body form.rest to.rest left_text left.rest right_text right.rest
+                    (behind_is (codes "        ") line body body_found) f.text_is t.text_is
+                    (behind_is (codes ", ") to.rest left_text left_text_found) l.text_is
+                    (behind_is (codes ", ") left.rest right_text right_text_found) r.text_is end.0
+                ∙ sym (body_line-flat (record { form = form.number; to = to.number; left = left.number; right = right.number }));
+            plain = record { form = f.within; to = t.within; left = l.within; right = r.within } } in
+        subst (IsRead line) end.1 read)))))))
+
+then_is : {A B : Type 0} (f : A → Option B) (o : Option A) (x : A) (y : Option B) → o ≡ Some x → f x ≡ y → option_and_then f o ≡ y
+then_is f o x y found next = ap (option_and_then f) found ∙ next
+
+parse-flat : (p : Plain) → IsPlain p →
+    parse (codes "        " ++ (mnemonic p.form ++ (codes " x" ++ (decimal p.to ++ (codes ", x" ++ (decimal p.left ++ (codes ", x" ++ (decimal p.right ++ codes "\n")))))))) ≡ Some p
+unfolding parse
+parse-flat p h =
+    let right_text : List ℕ = codes "x" ++ (decimal p.right ++ codes "\n") in
+    let left_text : List ℕ = codes "x" ++ (decimal p.left ++ (codes ", " ++ right_text)) in
+    let to_text : List ℕ = codes "x" ++ (decimal p.to ++ (codes ", " ++ left_text)) in
+    then_is _ _ (mnemonic p.form ++ (32 ∷ to_text)) (Some p) (behind-append (codes "        ") (mnemonic p.form ++ (32 ∷ to_text))) (
+    then_is _ _ (record { number = p.form; rest = to_text }) (Some p) (form_at-printed p.form to_text h.form) (
+    then_is _ _ (record { number = p.to; rest = codes ", " ++ left_text }) (Some p) (register_at-printed p.to 44 (32 ∷ left_text) h.to refl) (
+    then_is _ _ left_text (Some p) (behind-append (codes ", ") left_text) (
+    then_is _ _ (record { number = p.left; rest = codes ", " ++ right_text }) (Some p) (register_at-printed p.left 44 (32 ∷ right_text) h.left refl) (
+    then_is _ _ right_text (Some p) (behind-append (codes ", ") right_text) (
+    then_is _ _ (record { number = p.right; rest = codes "\n" }) (Some p) (register_at-printed p.right 10 [] h.right refl) refl))))))
+
+pub parse-printed : (p : Plain) → IsPlain p → parse (body_line p) ≡ Some p
+parse-printed p h = ap parse (body_line-flat p) ∙ parse-flat p h
