@@ -4,11 +4,12 @@ use Rattle.std.proofs.Math.Logic.{⊎_elim}
 use Rattle.std.proofs.lemmas.Bool.{cases_Bool}
 use Rattle.std.proofs.lemmas.Option.{same_Some}
 use Rattle.std.proofs.lemmas.Slice.Eq.{bytes_eq-Decides}
-use Rattle.std.specs.Prelude.{Option, Some, None, find}
+use Rattle.std.specs.Prelude.{Option, Some, None, IfSome, IfNone, find, option_map, ◌≢◌}
 use Rattle.std.specs.List.{flat_map}
 use Rattle.std.specs.Str.{bytes_eq}
 use Rattle.sl_isa.specs.Steps.{parse}
-use Rattle.sl_isa.specs.ThreeForms.{Plain, IsPlain, body_line, below, all_plain, read_plain}
+use Rattle.sl_isa.specs.ThreeForms.{Plain, IsPlain, body_line, below, all_plain, read_plain, read_instr, plain_instr, plain_of}
+use Rattle.sl_model.specs.declared.instruction.Instr.{Instr}
 use Rattle.sl_isa.proofs.Reading.{IsRead, parse_is, parse-printed}
 
 -- an element stands in a list
@@ -173,8 +174,46 @@ same_options (Some p) b f g = sym (f p refl)
 pub read_plain_is_parse : (line : List ℕ) → read_plain line ≡ parse line
 read_plain_is_parse line = same_options (read_plain line) (parse line) (found_is_read line) (read_is_found line)
 
-pub plain_line_read : (p : Plain) → IsPlain p → read_plain (body_line p) ≡ Some p
-plain_line_read p h = read_plain_is_parse (body_line p) ∙ parse-printed p h
+pub read_plain_printed : (p : Plain) → IsPlain p → read_plain (body_line p) ≡ Some p
+read_plain_printed p h = read_plain_is_parse (body_line p) ∙ parse-printed p h
 
-pub read_line_is : (line : List ℕ) (p : Plain) → read_plain line ≡ Some p → (line ≡ body_line p) × IsPlain p
-read_line_is line p e = let read = parse_is line p (found_is_read line p e) in (read.line_is, read.plain)
+pub read_plain_line : (line : List ℕ) (p : Plain) → read_plain line ≡ Some p → line ≡ body_line p
+read_plain_line line p e = (parse_is line p (found_is_read line p e)).line_is
+
+pub read_plain_IsPlain : (line : List ℕ) (p : Plain) → read_plain line ≡ Some p → IsPlain p
+read_plain_IsPlain line p e = (parse_is line p (found_is_read line p e)).plain
+
+-- what a mapped `Option` comes from
+pub record IsMapped {A B : Type 0} (f : A → B) (o : Option A) (y : B) : Type 0 where
+  pub source : A
+  pub is : o ≡ Some source
+  pub image : f source ≡ y
+
+mapped_some : {A B : Type 0} (f : A → B) (o : Option A) (y : B) → option_map f o ≡ Some y → IsMapped f o y
+mapped_some f None y e = absurd cc
+mapped_some f (Some x) y e = record { source = x; is = refl; image = same_Some _ _ e }
+
+unmapped : {A B : Type 0} (f : A → B) (o : Option A) (x : A) → o ≡ Some x → None ≡ option_map f o → ⊥
+unmapped f None x found e = cc
+unmapped f (Some z) x found e = cc
+
+-- what the reader answers, by what the steps read
+abbrev pub IsAnswer : ℕ → List ℕ → Option Instr → Type 0
+IsAnswer number line result = result ≡ option_map (plain_instr number) (parse line)
+
+pub answer_value : (number : ℕ) (line : List ℕ) (result : Option Instr) → IsAnswer number line result → result ≡ read_instr number line
+answer_value number line result e = e ∙ ap (option_map (plain_instr number)) (sym (read_plain_is_parse line))
+
+pub answer_spelled : (number : ℕ) (line : List ℕ) (result : Option Instr) → IsAnswer number line result →
+    IfSome result (λ i. IsPlain (plain_of i) × line ≡ body_line (plain_of i) × i ≡ plain_instr number (plain_of i))
+answer_spelled number line None e = tt
+answer_spelled number line (Some i) e =
+    let found = mapped_some (plain_instr number) (parse line) i (sym e) in
+    let read = parse_is line found.source found.is in
+    subst (λ (v : Instr). IsPlain (plain_of v) × line ≡ body_line (plain_of v) × v ≡ plain_instr number (plain_of v)) found.image (read.plain, read.line_is, refl)
+
+pub answer_other : (number : ℕ) (line : List ℕ) (result : Option Instr) → IsAnswer number line result →
+    IfNone result ((p : Plain) → IsPlain p → line ≢ body_line p)
+answer_other number line None e =
+    λ p h same. absurd (unmapped (plain_instr number) (parse line) p (ap parse same ∙ parse-printed p h) e)
+answer_other number line (Some i) e = tt

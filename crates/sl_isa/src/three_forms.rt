@@ -1,8 +1,8 @@
 //! The first instructions: `add`, `sub` and `eor` of three x registers, read and printed.
 
-ghost use Rattle.std.specs.Prelude.{◌≡◌, ◌<◌, Some, None, MatchOption, option_map};
+ghost use Rattle.std.specs.Prelude.{◌≡◌, ◌≢◌, ◌<◌, ℕ, List, Some, None, MatchOption, IfSome, IfNone, option_map};
 ghost use Rattle.sl_isa.specs.Steps.{behind, form_at, second_digit, number_at, register_at, parse};
-ghost use Rattle.sl_isa.specs.ThreeForms.{mnemonic, number_of, spelling, plain_instr, plain_of};
+ghost use Rattle.sl_isa.specs.ThreeForms.{Plain, IsPlain, mnemonic, number_of, spelling, body_line, read_plain, read_instr, plain_instr, plain_of};
 
 use crate::{Bank, Instr, Reg};
 use std::fmt;
@@ -11,7 +11,32 @@ use std::fmt;
 
 
 
-/// A number that was read, and the text behind it.
+/// Reads a whole line, with its line feed, as one of the three instructions; `number` is its line number. There is
+/// none where the line isn't exactly one that is printed: eight spaces, the instruction, a line feed.
+#[tactic(auto, using(crate::proofs::Found::answer_value, crate::proofs::Found::answer_spelled, crate::proofs::Found::answer_other))]
+pub fn read_line(line: &str, number: u32) -> Option<Instr>
+    ensures value { result ≡ read_instr number line.now }
+    ensures spelled { IfSome result (λ i. IsPlain (plain_of i) × (line.now ≡ body_line (plain_of i)) × (i ≡ plain_instr number (plain_of i))) }
+    ensures other { IfNone result ((p : Plain) → IsPlain p → line.now ≢ body_line p) }
+{
+    read_bytes(line.as_bytes(), number)
+}
+
+/// What is printed is read back.
+#[tactic(auto, using(crate::proofs::Found::read_plain_printed))]
+pub fn printed_is_read()
+    ensures { (p : Plain) → IsPlain p → read_plain (body_line p) ≡ Some p }
+{
+}
+
+/// What is read is the line of what was read: nothing else is read.
+#[tactic(auto, using(crate::proofs::Found::read_plain_line, crate::proofs::Found::read_plain_IsPlain))]
+pub fn read_is_printed()
+    ensures { (line : List ℕ) (p : Plain) → read_plain line ≡ Some p → (line ≡ body_line p) × IsPlain p }
+{
+}
+
+// A number that was read, and the text behind it.
 #[derive(Clone, Copy)]
 struct Numbered<'a> {
     number: u16,
