@@ -155,7 +155,6 @@ second_digit-one : (first ones : ℕ) (rest : List ℕ) → ones < 10 → 10 ≤
     second_digit first ((48 + ones) ∷ rest) ≡ Some (record { number = 10 * first + ones; rest = rest })
 unfolding second_digit
 second_digit-one first ones rest h low high =
-    let n : ℕ = 10 * first + ones in
     let back : 48 + ones - 48 ≡ ones = omega arith in
     let not_low : nat_lt (10 * first + ones) 10 ≡ false = below_not _ _ low in
     let not_high : nat_lt 30 (10 * first + ones) ≡ false = below_not _ _ (omega arith) in

@@ -1,4 +1,5 @@
--- The steps by which a line of the three forms is read, each with the text that it leaves behind it.
+-- The steps by which the code reads a line of the three forms, each with the text that it leaves behind it. What a line
+-- means is in ThreeForms: the steps are proved to find the same.
 use Rattle.std.specs.Prelude.{◌≡◌, ℕ, ◌+◌, ◌-◌, ◌*◌, nat_eq, nat_lt, List, [], ◌∷◌, codes, length, drop, Option, None, Some, option_and_then, if◌then◌else◌}
 use Rattle.std.specs.Char.{is_ascii_digit}
 use Rattle.std.specs.List.{starts_with}
@@ -15,7 +16,7 @@ pub record Numbered : Type 0 where
   pub number : ℕ
   pub rest : List ℕ
 
--- The code read what a step gives.
+-- what the code read is what a step gives
 abbrev pub Reads : Option Slice.Numbered → Option Numbered → Type 0
 Reads None step = step ≡ None
 Reads (Some r) step = step ≡ Some (record { number = r.number; rest = r.rest.now })

@@ -19,7 +19,8 @@ const EOR: u16 = 2;
 #[tactic(auto, using(crate::proofs::Found::answer_value, crate::proofs::Found::answer_spelled, crate::proofs::Found::answer_other))]
 pub fn read_line(line: &str, number: u32) -> Option<Instr>
     ensures value { result ≡ read_instr number line.now }
-    ensures spelled { IfSome result (λ i. IsPlain (plain_of i) × (line.now ≡ body_line (plain_of i)) × (i ≡ plain_instr number (plain_of i))) }
+    ensures spelled { IfSome result (λ i.
+        IsPlain (plain_of i) × (line.now ≡ body_line (plain_of i)) × (i ≡ plain_instr number (plain_of i))) }
     ensures other { IfNone result ((p : Plain) → IsPlain p → line.now ≢ body_line p) }
 {
     read_bytes(line.as_bytes(), number)
