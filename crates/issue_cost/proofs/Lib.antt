@@ -1,0 +1,3 @@
+pub mod IssueRule
+pub mod TallyLemmas
+pub mod EntryLemmas
