@@ -79,14 +79,15 @@ impl Costs {
     /// After how many cycles the output at a place of one item is ready for an operand of another, from 1 to 255: the
     /// `writeback` of the first for its written-back base, else the latency of the forward for the two classes and the
     /// operand, else the `latency` of the first.
+    #[tactic(auto, unfolding(sl_model::specs::Cycles::ready_after))]
     pub fn ready_after(&self, from: u16, place: u8, to: u16, operand: u8) -> u32
         requires from_has_a_row { from < length self.now.rows }
         requires to_has_a_row { to < length self.now.rows }
         ensures ready { result ≡ ready_after self.now from place to operand }
         ensures most { result ≤ 255 }
     {
-        let row = self.rows[usize::from(from)];
-        if is_back(&row, place) {
+        let row = &self.rows[usize::from(from)];
+        if is_back(row, place) {
             return u32::from(row.writeback);
         }
         let class = self.rows[usize::from(to)].class;
