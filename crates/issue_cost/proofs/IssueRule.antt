@@ -2,7 +2,7 @@
 -- when all is free and ready.
 use Rattle.std.proofs.Common.{◌≡◌, ℕ, suc, ◌+◌, ◌*◌, ◌<◌, ◌≤◌, Bool, true, false, nat_lt, eqb, List, [], ◌∷◌, ◌++◌, length, map, max, if◌then◌else◌, refl, sym, ◌∙◌, ap, subst, ⊎_elim, zero-add, arith}
 use Rattle.std.proofs.lemmas.Bool.{cases_Bool, ne_eqb, eq-eqb, eqb-true, eqb-false, ltb-true, ltb-false}
-use Rattle.sl_model.specs.Cycles.{Push, Issued, issued_at, first_slot, unit_free, next_cycle, last_cycle, MayIssue, issue, issued_from}
+use Rattle.sl_model.specs.Cycles.{Push, Issued, issued_at, first_slot, unit_free, next_cycle, last_cycle, MayIssue, issue, issued_from, cycle_count}
 use Rattle.issue_cost.specs.Timeline.{IsFreeBy}
 use Rattle.issue_cost.specs.Tallies.{NoneAfter}
 
@@ -167,3 +167,13 @@ pub length-issued_from : (done : List Issued) (pushes : List Push) → length (i
 unfolding issued_from
 length-issued_from done [] = omega arith
 length-issued_from done (q ∷ pushes) = length-issued_from (issue q done ∷ done) pushes ∙ omega arith
+
+-- one cycle more is taken than the last one
+pub cycle_count-last : (done : List Issued) → 0 < length done → last_cycle done + 1 ≡ cycle_count done
+cycle_count-last [] some = absurd (omega arith)
+cycle_count-last (i ∷ done) some = refl
+
+-- no cycle is taken for no item
+pub cycle_count-none : (done : List Issued) → length done ≡ 0 → 0 ≡ cycle_count done
+cycle_count-none [] none = refl
+cycle_count-none (i ∷ done) none = absurd (omega arith)

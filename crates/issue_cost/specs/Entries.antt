@@ -1,5 +1,5 @@
 -- What the entries of an `Issue` keep.
-use Rattle.std.specs.Prelude.{ℕ, ◌+◌, ◌^◌, ◌<◌, ◌≤◌, List, [], ◌∷◌}
+use Rattle.std.specs.Prelude.{ℕ, ◌+◌, ◌^◌, ◌<◌, ◌≤◌, List, [], ◌∷◌, length}
 use Rattle.sl_model.specs.Cycles.{Push, Issued, issue}
 use Rattle.issue_cost.specs.declared.issue.Entry.{Entry}
 use Rattle.issue_cost.specs.Tallies.{Tallies}
@@ -18,3 +18,9 @@ pub record IsCounted (done : List Issued) (e : Entry) : Type 0 where
 unfoldable pub AreCounted : List Issued → List Entry → Type 0
 AreCounted done [] = Unit {0}
 AreCounted done (e ∷ entries) = IsCounted done e × AreCounted (issue (pushed e) done ∷ done) entries
+
+-- There is room for at most 65536 entries, all there are have room, and each is counted.
+pub record IsKept (room : ℕ) (entries : List Entry) : Type 0 where
+  pub small : room ≤ 65536
+  pub few : length entries ≤ room
+  pub counted : AreCounted [] entries

@@ -26,16 +26,16 @@ pub struct Issue {
 }
 
 impl Model for Issue {
-    ghost use Rattle.std.specs.Prelude.{ℕ, ◌≤◌, [], length, map, vec_capacity};
+    ghost use Rattle.std.specs.Prelude.{map, vec_capacity};
     ghost use Rattle.issue_cost.specs.Timeline.{Timeline};
 
     ghost Value = { Timeline };
 
-    ghost use Rattle.issue_cost.specs.Entries.{pushed, AreCounted};
+    ghost use Rattle.issue_cost.specs.Entries.{pushed, IsKept};
 
     ghost view = { λ a. record { pushes = map pushed a.entries.items; room = vec_capacity a.entries } };
 
-    ghost invariant = { λ a. (length a.entries.items ≤ 65536) × AreCounted [] a.entries.items };
+    ghost invariant = { λ a. IsKept (vec_capacity a.entries) a.entries.items };
 }
 
 impl Issue {
@@ -51,7 +51,6 @@ impl Issue {
     /// Issues one more item to a unit, where its operands are ready from the cycle `ready` on, and gives its cycle.
     pub fn push(&mut self, costs: &Costs, item: u16, unit: u8, ready: u32) -> u32
         requires room { length self.old.pushes < self.old.room }
-        requires few { length self.old.pushes < 65536 }
         requires item { item < length costs.now.rows }
         requires unit { unit < 16 }
         requires ready { ready ≤ 2 ^ 30 }
@@ -66,19 +65,18 @@ impl Issue {
                 } ∷ [];
             }
         }
-        ensures fits { result ≤ 2 ^ 30 + 256 * length self.old.pushes }
+        ensures fits { result ≤ 2 ^ 30 + 2 ^ 24 }
         ensures within { (limit : ℕ) → IsFreeBy limit (issued self.old.pushes) → ready ≤ limit → result ≤ limit }
     {
-        let width = costs.width();
+        let cycle = self.cycle_for(costs, unit, ready);
         let busy = costs.busy(item);
-        let tally = self.tally();
-        let cycle = tally.next_cycle(width, unit, ready);
+        let tally = self.tally().after(unit, busy, cycle);
         self.entries.push_reserved(Entry {
-            width,
+            width: costs.width(),
             unit,
             busy,
             ready,
-            tally: tally.after(unit, busy, cycle),
+            tally,
         });
         cycle
     }
@@ -102,7 +100,7 @@ impl Issue {
         ensures least {
             (cycle : ℕ) → MayIssue costs.now.width unit ready (issued self.now.pushes) cycle → result ≤ cycle
         }
-        ensures fits { result ≤ 2 ^ 30 + 256 * length self.now.pushes }
+        ensures fits { result ≤ 2 ^ 30 + 2 ^ 24 }
         ensures within { (limit : ℕ) → IsFreeBy limit (issued self.now.pushes) → ready ≤ limit → result ≤ limit }
     {
         let width = costs.width();
@@ -112,9 +110,9 @@ impl Issue {
     /// How many cycles the items take: one more than the cycle of the last, and 0 where there is none.
     pub fn cycles(&self) -> u32
         ensures cycles { result ≡ cycle_count (issued self.now.pushes) }
-        ensures fits { result ≤ 2 ^ 30 + 256 * length self.now.pushes }
+        ensures fits { result ≤ 2 ^ 30 + 2 ^ 24 }
     {
-        if self.entries.is_empty() {
+        if self.len() == 0 {
             return 0;
         }
         self.tally().cycle + 1
@@ -131,7 +129,8 @@ impl Issue {
     /// The tally of all items.
     fn tally(&self) -> Tally
         ensures tally { Tallies (issued self.now.pushes) result }
-        ensures few { length self.now.pushes ≤ 65536 }
+        ensures few { length self.now.pushes ≤ self.now.room }
+        ensures small { self.now.room ≤ 65536 }
         ensures free_by { IsFreeBy (2 ^ 30 + 256 * length self.now.pushes) (issued self.now.pushes) }
     {
         let len = self.entries.len();

@@ -4,5 +4,8 @@ use Rattle.issue_cost.proofs.issue.Issue.with_room.Goals as goal
 
 pub invariant_of-result : goal.invariant_of-result
 unfolding AreCounted
-invariant_of-result c =
-    subst (λ entries. (length entries ≤ 65536) × AreCounted [] entries) (sym (c.in_ok-entries.ensures.items)) (omega arith, tt)
+invariant_of-result c = record {
+  small = omega (arith, c.in_ok-entries.ensures.exact);
+  few = omega (arith, c.in_ok-entries.ensures.len);
+  counted = subst (λ entries. AreCounted [] entries) (sym c.in_ok-entries.ensures.items) tt;
+}
