@@ -1,6 +1,6 @@
-ghost use Rattle.std.specs.Prelude.{◌≡◌, ℕ, ◌==◌, ◌&&◌, ◌<◌, ◌≤◌, length, IfOk, slice_index_or};
-ghost use Rattle.sl_model.specs.Cycles.{CostTable, row_of, ready_after, forward_or, is_place};
-ghost use Rattle.issue_cost.specs.Sound.{IsSound};
+ghost use Rattle.std.specs.Prelude.{◌≡◌, ℕ, ◌==◌, ◌&&◌, ◌<◌, ◌≤◌, length, IfOk, IsTrue};
+ghost use Rattle.sl_model.specs.Cycles.{row_of, ready_after, forward_or, is_place};
+ghost use Rattle.issue_cost.specs.Sound.{IsSound, is_sound_row};
 
 use sl_model::schedule::{CostRow, Forward};
 use std::alloc::{AllocError, Global};
@@ -25,6 +25,9 @@ pub struct Costs {
 }
 
 impl Model for Costs {
+    ghost use Rattle.sl_model.specs.Cycles.{CostTable};
+    ghost use Rattle.issue_cost.specs.Sound.{IsSound};
+
     ghost Value = { CostTable };
 
     ghost view = { λ a. record { width = a.width; rows = a.rows.items; forwards = a.forwards.items } };
@@ -54,26 +57,29 @@ impl Costs {
     /// How many items are issued in a cycle at most, from 1 to 8.
     pub fn width(&self) -> u8
         ensures width { result ≡ self.now.width }
-        ensures sound { IsSound self.now }
+        ensures least { 1 ≤ result }
+        ensures most { result ≤ 8 }
     {
         self.width
     }
 
-    /// The units that take an item: bit u for unit u.
+    /// The units that take an item, of which there is one: bit u for unit u.
     pub fn units(&self, item: u16) -> u16
         requires { item < length self.now.rows }
-        ensures { result ≡ (row_of self.now item).units }
+        ensures units { result ≡ (row_of self.now item).units }
+        ensures least { 1 ≤ result }
     {
-        self.rows[usize::from(item)].units
+        self.row(item).units
     }
 
     /// How many cycles an item keeps its unit, from 1 to 255.
     pub fn busy(&self, item: u16) -> u32
         requires { item < length self.now.rows }
         ensures busy { result ≡ (row_of self.now item).busy }
+        ensures least { 1 ≤ result }
         ensures most { result ≤ 255 }
     {
-        u32::from(self.rows[usize::from(item)].busy)
+        u32::from(self.row(item).busy)
     }
 
     /// After how many cycles the output at a place of one item is ready for an operand of another, from 1 to 255: the
@@ -84,14 +90,24 @@ impl Costs {
         requires from_has_a_row { from < length self.now.rows }
         requires to_has_a_row { to < length self.now.rows }
         ensures ready { result ≡ ready_after self.now from place to operand }
+        ensures least { 1 ≤ result }
         ensures most { result ≤ 255 }
     {
-        let row = &self.rows[usize::from(from)];
-        if is_back(row, place) {
+        let row = self.row(from);
+        if is_back(&row, place) {
             return u32::from(row.writeback);
         }
-        let class = self.rows[usize::from(to)].class;
+        let class = self.row(to).class;
         u32::from(forward_or(&self.forwards, row.class, class, operand, row.latency))
+    }
+
+    /// The row of an item.
+    fn row(&self, item: u16) -> CostRow
+        requires { item < length self.now.rows }
+        ensures row { result ≡ row_of self.now item }
+        ensures sound { IsTrue (is_sound_row result) }
+    {
+        self.rows[usize::from(item)]
     }
 }
 

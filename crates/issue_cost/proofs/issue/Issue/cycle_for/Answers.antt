@@ -13,7 +13,7 @@ cycle_is c =
 pub returns-clause-may_issue : goal.returns-clause-may_issue
 returns-clause-may_issue c =
     subst (λ cycle. MayIssue c.args.costs.now.width c.args.unit c.args.ready (issued c.args.self.now.pushes) cycle) (sym (cycle_is c))
-    (next_cycle-may_issue c.args.costs.now.width c.args.unit c.args.ready (issued c.args.self.now.pushes) c.width-width.ensures.sound.some_width
+    (next_cycle-may_issue c.args.costs.now.width c.args.unit c.args.ready (issued c.args.self.now.pushes) (subst (λ width. 1 ≤ width) c.width-width.ensures.width c.width-width.ensures.least)
     (subst (λ cycle. NoneAfter cycle (issued c.args.self.now.pushes)) c.tally.ensures.tally.last c.tally.ensures.tally.none_after))
 
 pub returns-clause-least : goal.returns-clause-least
