@@ -40,9 +40,9 @@ AreCounted-tally entries k d counted len =
     let split : entries ≡ front ++ last ∷ [] = sym (take_all (suc k) entries whole) ∙ take-suc entries k d within in
     let counted_last : IsCounted (issued_from [] (map pushed front)) last = AreCounted-last [] front last (subst (λ xs. AreCounted [] xs) split counted) in
     let all : issued_from [] (map pushed entries) ≡ issue (pushed last) (issued_from [] (map pushed front)) ∷ issued_from [] (map pushed front) =
-        ap (λ xs. issued_from [] (map pushed xs)) split
-        ∙ ap (λ pushes. issued_from [] pushes) (pushed-push front last)
-        ∙ issued_from-push [] (map pushed front) (pushed last) in
+    ap (λ xs. issued_from [] (map pushed xs)) split
+    ∙ ap (λ pushes. issued_from [] pushes) (pushed-push front last)
+    ∙ issued_from-push [] (map pushed front) (pushed last) in
     subst (λ done. Tallies done last.tally) (sym all) counted_last.tally
 
 -- all is free at most 256 cycles later with each entry

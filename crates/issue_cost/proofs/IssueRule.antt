@@ -37,10 +37,10 @@ slot-here_or_later width cycle i done some none at_least here =
     ⊎_elim
     (λ (test : eqb i.cycle cycle ≡ true). subst (λ n. issued_at n (i ∷ done) < width) (eqb-true i.cycle cycle test) here)
     (λ (test : eqb i.cycle cycle ≡ false).
-      let other : i.cycle ≡ cycle → ⊥ = eqb-false i.cycle cycle test in
-      let later : i.cycle < cycle = omega arith in
-      let zero_there : issued_at cycle (i ∷ done) ≡ 0 = issued_at-after cycle i.cycle (i ∷ done) none later in
-      omega arith)
+    let other : i.cycle ≡ cycle → ⊥ = eqb-false i.cycle cycle test in
+    let later : i.cycle < cycle = omega arith in
+    let zero_there : issued_at cycle (i ∷ done) ≡ 0 = issued_at-after cycle i.cycle (i ∷ done) none later in
+    omega arith)
     (cases_Bool (eqb i.cycle cycle))
 
 -- a cycle from the first slot on has a slot
@@ -50,12 +50,12 @@ slot-from width cycle [] some none from = unfold issued_at in some
 slot-from width cycle (i ∷ done) some none from =
     ⊎_elim
     (λ (test : nat_lt (issued_at i.cycle (i ∷ done)) width ≡ true).
-      let at_least : i.cycle ≤ cycle = rw test at from in
-      slot-here_or_later width cycle i done some none at_least (ltb-true (issued_at i.cycle (i ∷ done)) width test))
+    let at_least : i.cycle ≤ cycle = rw test at from in
+    slot-here_or_later width cycle i done some none at_least (ltb-true (issued_at i.cycle (i ∷ done)) width test))
     (λ (test : nat_lt (issued_at i.cycle (i ∷ done)) width ≡ false).
-      let later : i.cycle + 1 ≤ cycle = rw test at from in
-      let zero_there : issued_at cycle (i ∷ done) ≡ 0 = issued_at-after cycle i.cycle (i ∷ done) none (omega arith) in
-      omega arith)
+    let later : i.cycle + 1 ≤ cycle = rw test at from in
+    let zero_there : issued_at cycle (i ∷ done) ≡ 0 = issued_at-after cycle i.cycle (i ∷ done) none (omega arith) in
+    omega arith)
     (cases_Bool (nat_lt (issued_at i.cycle (i ∷ done)) width))
 
 -- no cycle before the first slot has one
@@ -66,12 +66,12 @@ slot-least width cycle (i ∷ done) in_order slot =
     ⊎_elim
     (λ (test : nat_lt (issued_at i.cycle (i ∷ done)) width ≡ true). rw test in_order)
     (λ (test : nat_lt (issued_at i.cycle (i ∷ done)) width ≡ false).
-      let full : width ≤ issued_at i.cycle (i ∷ done) = ltb-false (issued_at i.cycle (i ∷ done)) width test in
-      let other : i.cycle ≡ cycle → ⊥ = λ (same : i.cycle ≡ cycle).
-        let slot_here : issued_at i.cycle (i ∷ done) < width = subst (λ n. issued_at n (i ∷ done) < width) (sym same) slot in
-        omega arith
-      in
-      rw test (omega arith))
+    let full : width ≤ issued_at i.cycle (i ∷ done) = ltb-false (issued_at i.cycle (i ∷ done)) width test in
+    let other : i.cycle ≡ cycle → ⊥ = λ (same : i.cycle ≡ cycle).
+    let slot_here : issued_at i.cycle (i ∷ done) < width = subst (λ n. issued_at n (i ∷ done) < width) (sym same) slot in
+    omega arith
+    in
+    rw test (omega arith))
     (cases_Bool (nat_lt (issued_at i.cycle (i ∷ done)) width))
 
 -- the first slot isn't before the last item

@@ -19,8 +19,8 @@ row-is_sound rows i d sound within =
     ⊎_elim
     (λ (holds : is_sound_row (get_or rows i d) ≡ true). holds)
     (λ (fails : is_sound_row (get_or rows i d) ≡ false).
-      let none : list_all is_sound_row rows ≡ false = list_all_at is_sound_row rows i d within fails in
-      absurd (cc))
+    let none : list_all is_sound_row rows ≡ false = list_all_at is_sound_row rows i d within fails in
+    absurd (cc))
     (cases_Bool (is_sound_row (get_or rows i d)))
 
 -- the numbers of a sound row

@@ -37,19 +37,19 @@ unfolding issued_at
 count-after i done t count h in_order same later =
     let test : eqb i.cycle i.cycle ≡ true = eq-eqb i.cycle i.cycle refl in
     rw test (
-      ⊎_elim
-      (λ (here : eqb i.cycle t.cycle ≡ true).
-        let is : i.cycle ≡ t.cycle = eqb-true i.cycle t.cycle here in
-        let counted : t.count ≡ issued_at i.cycle done = h.count ∙ ap (λ cycle. issued_at cycle done) (sym is) in
-        let more : count ≡ t.count + 1 = same is in
-        omega arith)
-      (λ (there : eqb i.cycle t.cycle ≡ false).
-        let other : i.cycle ≡ t.cycle → ⊥ = eqb-false i.cycle t.cycle there in
-        let is : t.cycle < i.cycle = omega arith in
-        let none : issued_at i.cycle done ≡ 0 = issued_at-after i.cycle t.cycle done h.none_after is in
-        let one : count ≡ 1 = later is in
-        omega arith)
-      (cases_Bool (eqb i.cycle t.cycle)))
+    ⊎_elim
+    (λ (here : eqb i.cycle t.cycle ≡ true).
+    let is : i.cycle ≡ t.cycle = eqb-true i.cycle t.cycle here in
+    let counted : t.count ≡ issued_at i.cycle done = h.count ∙ ap (λ cycle. issued_at cycle done) (sym is) in
+    let more : count ≡ t.count + 1 = same is in
+    omega arith)
+    (λ (there : eqb i.cycle t.cycle ≡ false).
+    let other : i.cycle ≡ t.cycle → ⊥ = eqb-false i.cycle t.cycle there in
+    let is : t.cycle < i.cycle = omega arith in
+    let none : issued_at i.cycle done ≡ 0 = issued_at-after i.cycle t.cycle done h.none_after is in
+    let one : count ≡ 1 = later is in
+    omega arith)
+    (cases_Bool (eqb i.cycle t.cycle)))
 
 -- when a unit is free with one more item
 free-after : (i : Issued) (done : List Issued) (t : Tally) (unit : ℕ) → Tallies done t → unit_free i.unit done ≤ i.cycle → i.unit < 16 → unit < 16 → get_or (set t.free i.unit (i.cycle + i.busy)) unit 0 ≡ unit_free unit (i ∷ done)
@@ -57,15 +57,15 @@ unfolding unit_free
 free-after i done t unit h free taken known =
     ⊎_elim
     (λ (test : eqb i.unit unit ≡ true).
-      let same : i.unit ≡ unit = eqb-true i.unit unit test in
-      let units : length t.free ≡ 16 = h.units in
-      let free_there : unit_free unit done ≤ i.cycle = subst (λ u. unit_free u done ≤ i.cycle) same free in
-      let here : get_or (set t.free i.unit (i.cycle + i.busy)) unit 0 ≡ i.cycle + i.busy = subst (λ u. get_or (set t.free i.unit (i.cycle + i.busy)) u 0 ≡ i.cycle + i.busy) same (get_or-set_same t.free i.unit (i.cycle + i.busy) 0 (omega arith)) in
-      rw test (omega arith))
+    let same : i.unit ≡ unit = eqb-true i.unit unit test in
+    let units : length t.free ≡ 16 = h.units in
+    let free_there : unit_free unit done ≤ i.cycle = subst (λ u. unit_free u done ≤ i.cycle) same free in
+    let here : get_or (set t.free i.unit (i.cycle + i.busy)) unit 0 ≡ i.cycle + i.busy = subst (λ u. get_or (set t.free i.unit (i.cycle + i.busy)) u 0 ≡ i.cycle + i.busy) same (get_or-set_same t.free i.unit (i.cycle + i.busy) 0 (omega arith)) in
+    rw test (omega arith))
     (λ (test : eqb i.unit unit ≡ false).
-      let other : unit ≢ i.unit = λ (same : unit ≡ i.unit). eqb-false i.unit unit test (sym same) in
-      let there : get_or (set t.free i.unit (i.cycle + i.busy)) unit 0 ≡ unit_free unit done = get_or-set_other t.free i.unit unit (i.cycle + i.busy) 0 other ∙ h.free unit known in
-      rw test (omega arith))
+    let other : unit ≢ i.unit = λ (same : unit ≡ i.unit). eqb-false i.unit unit test (sym same) in
+    let there : get_or (set t.free i.unit (i.cycle + i.busy)) unit 0 ≡ unit_free unit done = get_or-set_other t.free i.unit unit (i.cycle + i.busy) 0 other ∙ h.free unit known in
+    rw test (omega arith))
     (cases_Bool (eqb i.unit unit))
 
 -- The tally with one more item, which isn't before the last one nor before its unit is free.

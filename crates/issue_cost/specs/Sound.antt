@@ -6,11 +6,11 @@ use Rattle.sl_model.specs.declared.schedule.CostRow.{CostRow}
 use Rattle.sl_model.specs.declared.schedule.Forward.{Forward}
 
 -- Does a row have a unit, and numbers of at least 1?
-unfoldable pub is_sound_row : CostRow → Bool
+abbrev pub is_sound_row : CostRow → Bool
 is_sound_row row = nat_lt 0 row.units && (nat_lt 0 row.busy && (nat_lt 0 row.latency && nat_lt 0 row.writeback))
 
 -- Is a forward's latency at least 1?
-unfoldable pub is_sound_forward : Forward → Bool
+abbrev pub is_sound_forward : Forward → Bool
 is_sound_forward forward = nat_lt 0 forward.latency
 
 -- A core issues 1 to 8 items in a cycle, and its rows and forwards are sound.

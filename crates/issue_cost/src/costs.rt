@@ -38,13 +38,22 @@ impl Model for Costs {
 impl Costs {
     /// Keeps a core's width, from 1 to 8 items in a cycle, a row for each item, and the forwards. Each row has a unit,
     /// and each number of cycles is at least 1.
-    pub fn new(alloc: Global, width: u8, rows: &[CostRow], forwards: &[Forward]) -> Result<Costs, NoMemory>
+    pub fn new(
+        alloc: Global,
+        width: u8,
+        rows: &[CostRow],
+        forwards: &[Forward],
+    ) -> Result<Costs, NoMemory>
         requires { IsSound (record { width = width; rows = rows.now; forwards = forwards.now }) }
         ensures { IfOk result (λ costs. costs ≡ record { width = width; rows = rows.now; forwards = forwards.now }) }
     {
         let rows = Vec::from_slice(alloc, rows)?;
         let forwards = Vec::from_slice(alloc, forwards)?;
-        Ok(Costs { width, rows, forwards })
+        Ok(Costs {
+            width,
+            rows,
+            forwards,
+        })
     }
 
     /// Equal costs.

@@ -3,11 +3,10 @@ ghost use Rattle.sl_model.specs.Cycles.{Push, MayIssue, next_cycle, issued, cycl
 ghost use Rattle.issue_cost.specs.Timeline.{Timeline, IsFreeBy};
 ghost use Rattle.issue_cost.specs.Tallies.{Tallies};
 
-use std::alloc::Global;
-use std::marker::Model;
-
 use crate::costs::{Costs, NoMemory};
 use crate::tally::Tally;
+use std::alloc::Global;
+use std::marker::Model;
 
 /// A push, and the tally of the items up to it.
 #[derive(Clone, Copy)]
@@ -55,16 +54,14 @@ impl Issue {
         requires unit { unit < 16 }
         requires ready { ready ≤ 2 ^ 30 }
         ensures cycle { result ≡ next_cycle costs.now.width unit ready (issued self.old.pushes) }
-        ensures pushed {
-            self.new ≡ record self.old {
-                pushes = self.old.pushes ++ record {
-                    width = costs.now.width;
-                    unit = unit;
-                    busy = (row_of costs.now item).busy;
-                    ready = ready;
-                } ∷ [];
-            }
-        }
+        ensures pushed { self.new ≡ record self.old {
+          pushes = self.old.pushes ++ record {
+            width = costs.now.width;
+            unit = unit;
+            busy = (row_of costs.now item).busy;
+            ready = ready;
+          } ∷ [];
+        } }
         ensures fits { result ≤ 2 ^ 30 + 2 ^ 24 }
         ensures within { (limit : ℕ) → IsFreeBy limit (issued self.old.pushes) → ready ≤ limit → result ≤ limit }
     {
@@ -97,9 +94,7 @@ impl Issue {
         requires ready { ready ≤ 2 ^ 30 }
         ensures cycle { result ≡ next_cycle costs.now.width unit ready (issued self.now.pushes) }
         ensures may_issue { MayIssue costs.now.width unit ready (issued self.now.pushes) result }
-        ensures least {
-            (cycle : ℕ) → MayIssue costs.now.width unit ready (issued self.now.pushes) cycle → result ≤ cycle
-        }
+        ensures least { (cycle : ℕ) → MayIssue costs.now.width unit ready (issued self.now.pushes) cycle → result ≤ cycle }
         ensures fits { result ≤ 2 ^ 30 + 2 ^ 24 }
         ensures within { (limit : ℕ) → IsFreeBy limit (issued self.now.pushes) → ready ≤ limit → result ≤ limit }
     {

@@ -9,3 +9,5 @@ pub use sl_model::schedule::{CostRow, Forward};
 mod costs;
 mod issue;
 mod tally;
+#[cfg(test)]
+mod tests;

@@ -58,7 +58,11 @@ impl Tally {
         ensures same { cycle ≡ self.now.cycle → result ≡ self.now.count + 1 }
         ensures later { self.now.cycle < cycle → result ≡ 1 }
     {
-        if cycle == self.cycle { self.count + 1 } else { 1 }
+        if cycle == self.cycle {
+            self.count + 1
+        } else {
+            1
+        }
     }
 
     /// The tally with one more item, at a cycle at which it may be issued.
@@ -67,10 +71,8 @@ impl Tally {
         requires fits { cycle + busy < 2 ^ 32 }
         requires count_fits { self.now.count < 2 ^ 31 }
         requires in_order { self.now.cycle ≤ cycle }
-        ensures {
-            (done : List Issued) → Tallies done self.now → unit_free unit done ≤ cycle →
-            Tallies (record { unit = unit; busy = busy; cycle = cycle } ∷ done) result
-        }
+        ensures { (done : List Issued) → Tallies done self.now → unit_free unit done ≤ cycle →
+            Tallies (record { unit = unit; busy = busy; cycle = cycle } ∷ done) result }
     {
         let mut free = self.free;
         free[usize::from(unit)] = cycle + busy;

@@ -23,7 +23,7 @@ returns-clause-least c = λ cycle may.
 pub returns-clause-fits : goal.returns-clause-fits
 returns-clause-fits c =
     let within : next_cycle c.args.costs.now.width c.args.unit c.args.ready (issued c.args.self.now.pushes) ≤ 2 ^ 30 + 256 * length c.args.self.now.pushes =
-        next_cycle-within c.args.costs.now.width c.args.unit c.args.ready (2 ^ 30 + 256 * length c.args.self.now.pushes) (issued c.args.self.now.pushes) c.tally.ensures.free_by (omega arith) in
+    next_cycle-within c.args.costs.now.width c.args.unit c.args.ready (2 ^ 30 + 256 * length c.args.self.now.pushes) (issued c.args.self.now.pushes) c.tally.ensures.free_by (omega arith) in
     let is : c.next_cycle.result ≡ next_cycle c.args.costs.now.width c.args.unit c.args.ready (issued c.args.self.now.pushes) = cycle_is c in
     omega arith
 

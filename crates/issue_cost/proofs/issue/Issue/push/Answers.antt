@@ -10,7 +10,7 @@ pub after-tally-requires-clause-count_fits : goal.after-tally-requires-clause-co
 after-tally-requires-clause-count_fits c =
     let count : c.tally.result.count ≡ issued_at c.tally.result.cycle (issued c.args.self.now.pushes) = c.tally.ensures.tally.count in
     let few : issued_at c.tally.result.cycle (issued c.args.self.now.pushes) ≤ length (issued c.args.self.now.pushes) =
-        issued_at-length c.tally.result.cycle (issued c.args.self.now.pushes) in
+    issued_at-length c.tally.result.cycle (issued c.args.self.now.pushes) in
     let len : length (issued c.args.self.now.pushes) ≡ 0 + length c.args.self.now.pushes = length-issued_from [] c.args.self.now.pushes in
     omega arith
 
@@ -18,7 +18,7 @@ after-tally-requires-clause-count_fits c =
 tally_after : (c : goal.After-push_reserved) → Tallies (record { unit = c.args.unit; busy = c.busy-busy.result; cycle = next_cycle c.width.result c.args.unit c.args.ready (issued c.args.self.now.pushes) } ∷ issued c.args.self.now.pushes) c.after-tally.result
 tally_after c =
     let cycle : c.cycle_for-cycle.result ≡ next_cycle c.width.result c.args.unit c.args.ready (issued c.args.self.now.pushes) =
-        c.cycle_for-cycle.ensures.cycle ∙ ap (λ width. next_cycle width c.args.unit c.args.ready (issued c.args.self.now.pushes)) (sym c.width.ensures.width) in
+    c.cycle_for-cycle.ensures.cycle ∙ ap (λ width. next_cycle width c.args.unit c.args.ready (issued c.args.self.now.pushes)) (sym c.width.ensures.width) in
     subst
     (λ cycle. Tallies (record { unit = c.args.unit; busy = c.busy-busy.result; cycle = cycle } ∷ issued c.args.self.now.pushes) c.after-tally.result)
     cycle
