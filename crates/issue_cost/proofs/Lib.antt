@@ -1,0 +1,4 @@
+pub mod IssueRule
+pub mod TallyLemmas
+pub mod EntryLemmas
+pub mod SoundRows

@@ -1,0 +1,4 @@
+pub mod Sound
+pub mod Timeline
+pub mod Tallies
+pub mod Entries

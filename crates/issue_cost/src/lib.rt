@@ -1,0 +1,13 @@
+//! When a core issues items: the costs of a list of items, and the cycles at which they are issued one after the
+//! other.
+#![tactic(auto)]
+
+pub use costs::{Costs, NoMemory};
+pub use issue::Issue;
+pub use sl_model::schedule::{CostRow, Forward};
+
+mod costs;
+mod issue;
+mod tally;
+#[cfg(test)]
+mod tests;
