@@ -10,3 +10,6 @@ pub use cut::{Cut, cut_region};
 pub use line::{Line, Lines};
 pub use sl_model::text::CutRefusal;
 pub use text::{NotText, holds, lines, split_line, text_of, without_end};
+
+#[cfg(test)]
+mod tests;
