@@ -1,7 +1,7 @@
 -- The lines of a text, and its cut at two marker lines. A text is the list of its bytes.
 -- Source: a profile of GNU as, in which a region stands between two labels.
-use Rattle.std.specs.Prelude.{ℕ, Bool, true, false, ◌+◌, ◌-◌, ◌==◌, ◌&&◌, ◌||◌, nat_eq, nat_lt, List, [], ◌∷◌, ◌++◌, length, take, drop, codes, count_by, Option, None, Some, Result, Ok, Err, if◌then◌else◌}
-use Rattle.std.specs.List.{starts_with}
+use Rattle.std.specs.Prelude.{ℕ, Bool, true, false, ◌+◌, ◌-◌, ◌==◌, ◌&&◌, ◌||◌, nat_eq, nat_lt, List, [], ◌∷◌, ◌++◌, length, map, take, drop, codes, count_by, Option, None, Some, Result, Ok, Err, if◌then◌else◌}
+use Rattle.std.specs.List.{starts_with, enumerate_from}
 use Rattle.std.specs.Str.Lossy.{utf8_valid_len}
 use Rattle.sl_model.specs.declared.text.CutRefusal.{CutRefusal}
 use Rattle.sl_model.specs.declared.text.CutRefusal.TheVariants.{NoStart, NoEnd, Twice}
@@ -27,6 +27,10 @@ is_line_end (a ∷ b ∷ c ∷ rest) = false
 unfoldable pub without_end : List ℕ → List ℕ
 without_end [] = []
 without_end (c ∷ line) = if is_line_end (c ∷ line) then [] else c ∷ without_end line
+
+-- the lines of a text without their ends, each with its number, counted from a first one
+unfoldable pub numbered_lines : ℕ → List ℕ → List (ℕ × List ℕ)
+numbered_lines first text = enumerate_from first (map without_end (whole_lines text))
 
 -- the texts one behind the other
 unfoldable pub joined : List (List ℕ) → List ℕ
