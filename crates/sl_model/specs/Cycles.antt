@@ -1,6 +1,6 @@
 -- When items are issued, recounted from the first one. A core issues items in order, at most as many in a cycle as
 -- it is wide, each when its operands and its unit are ready. Source: the in-order issue model of SLOTHY (TCHES 2024).
-use Rattle.std.specs.Prelude.{ℕ, Bool, false, ◌+◌, ◌-◌, ◌/◌, ◌==◌, ◌&&◌, ◌<◌, ◌≤◌, nat_lt, max, List, [], ◌∷◌, length, slice_index_or, Option, None, Some, if◌then◌else◌}
+use Rattle.std.specs.Prelude.{ℕ, Bool, false, ◌+◌, ◌-◌, ◌/◌, ◌==◌, ◌&&◌, ◌<◌, ◌≤◌, nat_lt, max, List, [], ◌∷◌, ◌++◌, length, slice_index_or, Option, None, Some, if◌then◌else◌}
 use Rattle.sl_model.specs.declared.schedule.Source.{Source}
 use Rattle.sl_model.specs.declared.schedule.Source.TheVariants.{Entry, Item}
 use Rattle.sl_model.specs.declared.schedule.Choice.{Choice}
@@ -72,6 +72,11 @@ issued pushes = issued_from [] pushes
 abbrev pub cycle_count : List Issued → ℕ
 cycle_count [] = 0
 cycle_count (i ∷ done) = i.cycle + 1
+
+-- the cycles of what was issued, from the first on
+abbrev pub cycles_of : List Issued → List ℕ
+cycles_of [] = []
+cycles_of (i ∷ done) = cycles_of done ++ i.cycle ∷ []
 
 -- a quotient, rounded up
 abbrev pub ceil_div : ℕ → ℕ → ℕ

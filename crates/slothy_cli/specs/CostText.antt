@@ -1,11 +1,11 @@
 -- The text of `cost` for a straight region on the core `one:L`.
-use Rattle.std.specs.Prelude.{ℕ, ◌+◌, List, [], ◌∷◌, ◌++◌, length, map, reverse, replicate, codes, None}
+use Rattle.std.specs.Prelude.{ℕ, ◌+◌, List, [], ◌∷◌, ◌++◌, length, map, replicate, codes, None}
 use Rattle.std.specs.Fmt.{decimal}
 use Rattle.sl_model.specs.declared.instruction.Instr.{Instr}
 use Rattle.sl_model.specs.declared.schedule.Choice.{Choice}
 use Rattle.sl_model.specs.declared.schedule.CostRow.{CostRow}
 use Rattle.sl_model.specs.Source.{item_at, list_sources}
-use Rattle.sl_model.specs.Cycles.{CostTable, Issued, timed, cycle_count, stalls}
+use Rattle.sl_model.specs.Cycles.{CostTable, Issued, timed, cycle_count, cycles_of, stalls}
 use Rattle.sl_model.specs.Legal.{numbers_below}
 use Rattle.sl_isa.specs.ThreeForms.{spelling, plain_of}
 
@@ -29,15 +29,15 @@ unfoldable pub own_times : ℕ → List Instr → List Issued
 own_times latency items = timed (plain_costs latency (length items)) (list_sources items) (own_schedule items)
 
 -- the line of an item: its cycle, its unit, its number, its line in the file, and how it is printed
-abbrev pub cost_line : ℕ → Instr → Issued → List ℕ
-cost_line number i issued =
-    codes "c=" ++ (decimal issued.cycle ++ (codes " u=u i=" ++ (decimal number ++ (codes " line=" ++ (decimal i.line ++ (codes " " ++ (spelling (plain_of i) ++ codes "\n")))))))
+abbrev pub cost_line : ℕ → Instr → ℕ → List ℕ
+cost_line number i cycle =
+    codes "c=" ++ (decimal cycle ++ (codes " u=u i=" ++ (decimal number ++ (codes " line=" ++ (decimal i.line ++ (codes " " ++ (spelling (plain_of i) ++ codes "\n")))))))
 
--- the lines of items from a number on
-unfoldable pub cost_lines : ℕ → List Instr → List Issued → List ℕ
-cost_lines number [] times = []
+-- the lines of items from a number on, with their cycles
+unfoldable pub cost_lines : ℕ → List Instr → List ℕ → List ℕ
+cost_lines number [] cycles = []
 cost_lines number (i ∷ items) [] = []
-cost_lines number (i ∷ items) (issued ∷ times) = cost_line number i issued ++ cost_lines (number + 1) items times
+cost_lines number (i ∷ items) (cycle ∷ cycles) = cost_line number i cycle ++ cost_lines (number + 1) items cycles
 
 -- how many items there are, the cycles that they take and the stalls among these
 abbrev pub cost_head : ℕ → List Issued → List ℕ
@@ -47,4 +47,4 @@ cost_head items times =
 -- the text of `cost`: its head, and a line for each item
 unfoldable pub cost_text : ℕ → List Instr → List ℕ
 cost_text latency items =
-    cost_head (length items) (own_times latency items) ++ cost_lines 0 items (reverse (own_times latency items))
+    cost_head (length items) (own_times latency items) ++ cost_lines 0 items (cycles_of (own_times latency items))

@@ -1,4 +1,5 @@
 pub mod Command
+pub mod Shown
 pub mod CostText
 pub mod Outcome
 pub mod Messages

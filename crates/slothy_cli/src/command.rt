@@ -2,6 +2,7 @@
 ghost use Rattle.std.specs.Prelude.{◌≡◌, ◌≤◌, List, ℕ, map, Option, Some, None, string_bytes, option_map, IfSome};
 ghost use Rattle.std.specs.List.{list_all};
 ghost use Rattle.std.specs.Char.{is_ascii_digit};
+ghost use Rattle.slothy_cli.specs.Shown.{shown};
 ghost use Rattle.slothy_cli.specs.Command.{CostCommand as Cost, command_of, latency_of, latency_from, is_counting, is_name};
 
 /// `cost NAME --core one:L`.
@@ -33,7 +34,8 @@ fn is_counting(digits: &[u8]) -> bool
 // The latency behind `one:`.
 #[tactic(auto, unfolding(crate::specs::Command::latency_from))]
 fn latency_from(digits: &str) -> Option<u8>
-    ensures { result ≡ latency_from digits.now }
+    ensures value { result ≡ latency_from digits.now }
+    ensures least { IfSome result (λ latency. 1 ≤ latency) }
 {
     if !is_counting(digits.as_bytes()) {
         return None;
@@ -44,7 +46,8 @@ fn latency_from(digits: &str) -> Option<u8>
 // The latency of the core that a word `one:L` names.
 #[tactic(auto, unfolding(crate::specs::Command::latency_of))]
 fn latency_of(word: &str) -> Option<u8>
-    ensures { result ≡ latency_of word.now }
+    ensures value { result ≡ latency_of word.now }
+    ensures least { IfSome result (λ latency. 1 ≤ latency) }
 {
     latency_from(word.strip_prefix("one:")?)
 }
@@ -57,4 +60,23 @@ fn is_name(word: &str) -> bool
         return false;
     };
     *first != b'-'
+}
+
+/// The command that words ask for; there is none where they are wrong. The first word is the program's name.
+#[tactic(auto, unfolding(crate::specs::Command::command_of))]
+pub fn command_of(words: &[String]) -> Option<CostCommand<'_>>
+    ensures value { option_map shown result ≡ command_of (map string_bytes words.now) }
+    ensures range { IfSome result (λ command. (1 ≤ command.latency) × (command.latency ≤ 255)) }
+{
+    let [_, mode, name, option, core] = words else {
+        return None;
+    };
+    if mode.as_str() != "cost" || !is_name(name.as_str()) || option.as_str() != "--core" {
+        return None;
+    }
+    let latency = latency_of(core.as_str())?;
+    Some(CostCommand {
+        name: name.as_str(),
+        latency,
+    })
 }
