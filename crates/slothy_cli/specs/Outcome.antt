@@ -74,12 +74,22 @@ items_from number room (line ∷ lines) = item_before number room (read_instr nu
 abbrev pub region_items : Parts → Result (List Instr) Stop
 region_items parts = items_from parts.first 64 (whole_lines parts.body)
 
+-- the items of the region of a text
+unfoldable pub text_items : List ℕ → Result (List Instr) Stop
+text_items text = do
+  parts ← parts_from text
+  built ← built_parts parts
+  region_items built
+
+-- the items of the region of a file with these bytes
+unfoldable pub file_items : List ℕ → Result (List Instr) Stop
+file_items bytes = do
+  whole ← sized bytes
+  text ← text_from whole
+  text_items text
+
 -- what `cost` answers for the core `one:L`
 unfoldable pub cost_outcome : ℕ → List ℕ → Result (List ℕ) Stop
 cost_outcome latency bytes = do
-  whole ← sized bytes
-  text ← text_from whole
-  parts ← parts_from text
-  built ← built_parts parts
-  items ← region_items built
+  items ← file_items bytes
   Ok (cost_text latency items)

@@ -1,7 +1,26 @@
 -- The code's data, as the definitions see it.
+use Rattle.std.specs.Prelude.{◌≡◌, Result, Ok, Err}
 use Rattle.slothy_cli.specs.declared.command.CostCommand as words
+use Rattle.slothy_cli.specs.declared.stop.Stop.{Stop}
+use Rattle.slothy_cli.specs.declared.stop.Failure.{Failure}
+use Rattle.slothy_cli.specs.declared.stop.Failure.TheVariants.{Stopped, NoMemory}
 use Rattle.slothy_cli.specs.Command.{CostCommand}
 
 -- a command without where its name lies in memory
 abbrev pub shown : words.CostCommand → CostCommand
 shown c = record { name = c.name.now; latency = c.latency }
+
+-- What a function returned, seen by `view`, is the answer of a definition.
+abbrev pub Answers : {X Y : Type 0} → (X → Y) → Result X Stop → Result Y Stop → Type 0
+Answers view (Ok x) answer = answer ≡ Ok (view x)
+Answers view (Err stop) answer = answer ≡ Err stop
+
+-- A failure is a stop that the definition answers, or want of memory.
+abbrev pub Fails : {Y : Type 0} → Failure → Result Y Stop → Type 0
+Fails (Stopped stop) answer = answer ≡ Err stop
+Fails NoMemory answer = Unit {0}
+
+-- What a function returned, seen by `view`, is the answer of a definition, unless memory ran out.
+abbrev pub Gives : {X Y : Type 0} → (X → Y) → Result X Failure → Result Y Stop → Type 0
+Gives view (Ok x) answer = answer ≡ Ok (view x)
+Gives view (Err failure) answer = Fails failure answer

@@ -2,5 +2,6 @@
 #![tactic(auto)]
 
 pub mod command;
+mod region;
 pub mod status;
 pub mod stop;

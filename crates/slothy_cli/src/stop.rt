@@ -1,4 +1,8 @@
 //! Why there is no text.
+ghost use Rattle.std.specs.Prelude.{◌≡◌};
+ghost use Rattle.slothy_cli.specs.declared.stop.Failure.TheVariants.{Stopped, NoMemory};
+
+use std::alloc::{AllocError, AllocFailed};
 
 /// Why an input is refused.
 #[derive(Clone, Copy, Debug, PartialEq, Eq)]
@@ -29,4 +33,37 @@ pub enum Quantity {
 pub enum Stop {
     Refused { line: u32, reason: Reason },
     TooLarge { line: u32, quantity: Quantity, limit: u32 },
+}
+
+/// Why a step gives no answer.
+#[derive(Clone, Copy, Debug, PartialEq, Eq)]
+pub enum Failure {
+    /// The input has none.
+    Stopped(Stop),
+    /// Memory ran out.
+    NoMemory,
+}
+
+impl From<Stop> for Failure {
+    ghost from_gives = { λ stop e. e ≡ Stopped stop };
+
+    fn from(stop: Stop) -> Failure {
+        Failure::Stopped(stop)
+    }
+}
+
+impl From<AllocError> for Failure {
+    ghost from_gives = { λ _ e. e ≡ NoMemory };
+
+    fn from(_error: AllocError) -> Failure {
+        Failure::NoMemory
+    }
+}
+
+impl<T: Drop> From<AllocFailed<T>> for Failure {
+    ghost from_gives = { λ _ e. e ≡ NoMemory };
+
+    fn from(_error: AllocFailed<T>) -> Failure {
+        Failure::NoMemory
+    }
 }
