@@ -1,2 +1,4 @@
 pub mod Latency
 pub mod Items
+pub mod Telling
+pub mod Causes

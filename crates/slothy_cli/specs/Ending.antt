@@ -61,24 +61,33 @@ pub record HasStop (known : Option (List ℕ)) (latency : ℕ) (stop : Stop) : T
   pub bytes_of_file : AreOf known bytes
   pub outcome : cost_outcome latency bytes ≡ Err stop
 
--- the cause of each ending of `cost` for a file whose bytes may be known, and what the output took
+-- why there is no text for a command and its file, whose bytes may be known
+abbrev pub HasCause : CostCommand → Option (List ℕ) → FilesRun → Ending → Type 0
+-- the file's bytes have none; of a file that is too long, more than the limit was read
+HasCause c known files (Stopped stop) =
+    MatchBool (is_file_limit stop) ((files.chosen ≡ c.name) × (1048576 < files.given) × IfSome known (λ bytes. cost_outcome c.latency bytes ≡ Err stop))
+        (HasStop known c.latency stop)
+-- a call on the files failed, and it was one on this file
+HasCause c known files ReadFault = HasRisen files.faults_before files.faults_after × (files.chosen ≡ c.name) × (files.broken ≡ true)
+-- want of memory has no cause
+HasCause c known files NoMemory = Unit {0}
+HasCause c known files Done = ⊥
+HasCause c known files Usage = ⊥
+HasCause c known files (WriteFault sent) = ⊥
+
+-- The ending of a command that isn't wrong has its cause, and says what the output took.
 abbrev pub Ends : CostCommand → Option (List ℕ) → FilesRun → SinkRun → Ending → Type 0
 -- the text of the file's bytes was written whole
 Ends c known files out Done = (text : List ℕ) × HasText known c.latency text × (out.after ≡ append_known out.before text)
--- the words aren't wrong
-Ends c known files out Usage = ⊥
--- the file's bytes have no text; of a file that is too long, more than the limit was read
-Ends c known files out (Stopped stop) =
-    MatchBool (is_file_limit stop) ((files.chosen ≡ c.name) × (1048576 < files.given) × IfSome known (λ bytes. cost_outcome c.latency bytes ≡ Err stop))
-        (HasStop known c.latency stop) × TookNothing out
--- a call on the files failed, and it was one on this file
-Ends c known files out ReadFault =
-    HasRisen files.faults_before files.faults_after × (files.chosen ≡ c.name) × (files.broken ≡ true) × TookNothing out
 -- a call on the output failed, which had taken so many bytes of the text
 Ends c known files out (WriteFault sent) =
     HasRisen out.faults_before out.faults_after × ((text : List ℕ) × HasText known c.latency text × (sent < length text) × (out.after ≡ append_known out.before (take sent text)))
--- want of memory has no cause, but nothing was written
-Ends c known files out NoMemory = TookNothing out
+-- there is no text, and nothing was written
+Ends c known files out (Stopped stop) = HasCause c known files (Stopped stop) × TookNothing out
+Ends c known files out ReadFault = HasCause c known files ReadFault × TookNothing out
+Ends c known files out NoMemory = HasCause c known files NoMemory × TookNothing out
+-- the words aren't wrong
+Ends c known files out Usage = ⊥
 
 -- the name of the file that words give, if they are right
 abbrev pub name_of : Option CostCommand → List ℕ

@@ -60,9 +60,9 @@ stop_message name (stops.TooLarge line quantity limit) =
 
 -- the line on standard error of an ending, where the file has this name; there is none where all went well
 unfoldable pub message_of : List ℕ → Ending → List ℕ
-message_of name endings.Done = []
-message_of name endings.Usage = codes "slothy: usage: slothy MODE [INPUT] [OPTIONS]\n"
+message_of name endings.Done = joined []
+message_of name endings.Usage = joined (codes "slothy: usage: slothy MODE [INPUT] [OPTIONS]\n" ∷ [])
 message_of name (endings.Stopped stop) = stop_message name stop
 message_of name endings.ReadFault = joined (codes "slothy: read fault: " ∷ name ∷ codes "\n" ∷ [])
 message_of name (endings.WriteFault sent) = joined (codes "slothy: write fault after " ∷ decimal sent ∷ codes " bytes\n" ∷ [])
-message_of name endings.NoMemory = codes "slothy: no memory\n"
+message_of name endings.NoMemory = joined (codes "slothy: no memory\n" ∷ [])

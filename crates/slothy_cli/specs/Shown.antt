@@ -4,6 +4,12 @@ use Rattle.slothy_cli.specs.declared.command.CostCommand as words
 use Rattle.slothy_cli.specs.declared.stop.Stop.{Stop}
 use Rattle.slothy_cli.specs.declared.stop.Failure.{Failure}
 use Rattle.slothy_cli.specs.declared.stop.Failure.TheVariants.{Stopped, NoMemory}
+use Rattle.slothy_cli.specs.declared.stop.Quantity.TheVariants as quantities
+use Rattle.slothy_cli.specs.declared.stop.Stop.TheVariants.{TooLarge}
+use Rattle.slothy_cli.specs.declared.status.Ending.{Ending}
+use Rattle.slothy_cli.specs.declared.status.Ending.TheVariants as endings
+use Rattle.sl_base.specs.declared.reading.ReadErr.{ReadErr}
+use Rattle.sl_base.specs.declared.reading.ReadErr.TheVariants as errors
 use Rattle.slothy_cli.specs.Command.{CostCommand}
 
 -- a command without where its name lies in memory
@@ -24,3 +30,14 @@ Fails NoMemory answer = Unit {0}
 abbrev pub Gives : {X Y : Type 0} → (X → Y) → Result X Failure → Result Y Stop → Type 0
 Gives view (Ok x) answer = answer ≡ Ok (view x)
 Gives view (Err failure) answer = Fails failure answer
+
+-- how a file that couldn't be read ends a call
+abbrev pub unread_ending : ReadErr → Ending
+unread_ending errors.ReadFault = endings.ReadFault
+unread_ending (errors.TooLong limit) = endings.Stopped (TooLarge 0 quantities.File 1048576)
+unread_ending errors.NoMemory = endings.NoMemory
+
+-- how a failure ends a call
+abbrev pub failed_ending : Failure → Ending
+failed_ending (Stopped stop) = endings.Stopped stop
+failed_ending NoMemory = endings.NoMemory

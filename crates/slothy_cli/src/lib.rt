@@ -2,6 +2,9 @@
 #![tactic(auto)]
 
 pub mod command;
+mod cost;
 mod region;
+mod report;
 pub mod status;
 pub mod stop;
+mod work;

@@ -1,0 +1,182 @@
+//! The line on standard error.
+ghost use Rattle.std.specs.Prelude.{◌≡◌, ◌≤◌, [], ◌∷◌, map, codes};
+ghost use Rattle.std.specs.Fmt.{decimal};
+ghost use Rattle.sl_model.specs.Text.{joined};
+ghost use Rattle.slothy_cli.specs.Messages.{reason_text, quantity_text, stop_message, message_of};
+ghost use Rattle.slothy_cli.specs.Ending.{TookFront};
+
+use crate::status::Ending;
+use crate::stop::{Quantity, Reason, Stop};
+use itoa::Buffer;
+use sl_base::{Sink, write_all};
+
+// Writes texts one behind the other, until the sink fails. It takes no memory.
+fn tell<S: Sink>(sink: &mut S, pieces: &[&str])
+    ensures never_falls { S.faults sink.old ≤ S.faults sink.new }
+    ensures took {
+        TookFront (record {
+            before = S.taken sink.old;
+            after = S.taken sink.new;
+            faults_before = S.faults sink.old;
+            faults_after = S.faults sink.new;
+        }) (joined (map (λ piece. piece.now) pieces.now))
+    }
+{
+    for piece in pieces {
+        if let Err(_) = write_all(sink, piece.as_bytes()) {
+            return;
+        }
+    }
+}
+
+// The name of a reason.
+fn reason_text(reason: Reason) -> &'static str
+    ensures { result.now ≡ reason_text reason }
+{
+    match reason {
+        Reason::NotText => "NotText",
+        Reason::NoStart => "NoStart",
+        Reason::NoEnd => "NoEnd",
+        Reason::Twice => "Twice",
+        Reason::NotYet => "NotYet",
+    }
+}
+
+// The name of a quantity.
+fn quantity_text(quantity: Quantity) -> &'static str
+    ensures { result.now ≡ quantity_text quantity }
+{
+    match quantity {
+        Quantity::File => "file",
+        Quantity::Items => "items",
+    }
+}
+
+// Says that a line of a file is refused.
+fn report_refusal<'a, S: Sink>(sink: &mut S, name: &'a str, line: &'a str, reason: &'a str)
+    ensures never_falls { S.faults sink.old ≤ S.faults sink.new }
+    ensures took {
+        TookFront (record {
+            before = S.taken sink.old;
+            after = S.taken sink.new;
+            faults_before = S.faults sink.old;
+            faults_after = S.faults sink.new;
+        }) (joined (codes "slothy: " ∷ name.now ∷ codes ":" ∷ line.now ∷ codes ": refused: " ∷ reason.now ∷ codes "\n" ∷ []))
+    }
+{
+    tell(sink, &["slothy: ", name, ":", line, ": refused: ", reason, "\n"]);
+}
+
+// Says that a quantity passes its limit at a line of a file.
+fn report_limit<'a, S: Sink>(sink: &mut S, name: &'a str, line: &'a str, quantity: &'a str, limit: &'a str)
+    ensures never_falls { S.faults sink.old ≤ S.faults sink.new }
+    ensures took {
+        TookFront (record {
+            before = S.taken sink.old;
+            after = S.taken sink.new;
+            faults_before = S.faults sink.old;
+            faults_after = S.faults sink.new;
+        }) (joined (codes "slothy: " ∷ name.now ∷ codes ":" ∷ line.now ∷ codes ": too large: " ∷ quantity.now ∷ codes " limit=" ∷ limit.now ∷ codes "\n" ∷ []))
+    }
+{
+    tell(sink, &["slothy: ", name, ":", line, ": too large: ", quantity, " limit=", limit, "\n"]);
+}
+
+// Says why a file has no text.
+fn report_stop<S: Sink>(sink: &mut S, name: &str, stop: Stop)
+    ensures never_falls { S.faults sink.old ≤ S.faults sink.new }
+    ensures took {
+        TookFront (record {
+            before = S.taken sink.old;
+            after = S.taken sink.new;
+            faults_before = S.faults sink.old;
+            faults_after = S.faults sink.new;
+        }) (stop_message name.now stop)
+    }
+{
+    let mut line_digits = Buffer::new();
+    let mut limit_digits = Buffer::new();
+    match stop {
+        Stop::Refused { line, reason } => {
+            report_refusal(sink, name, line_digits.format(line), reason_text(reason));
+        }
+        Stop::TooLarge {
+            line,
+            quantity,
+            limit,
+        } => {
+            let line = line_digits.format(line);
+            let limit = limit_digits.format(limit);
+            report_limit(sink, name, line, quantity_text(quantity), limit);
+        }
+    }
+}
+
+// Says which file couldn't be read.
+fn report_read_fault<S: Sink>(sink: &mut S, name: &str)
+    ensures never_falls { S.faults sink.old ≤ S.faults sink.new }
+    ensures took {
+        TookFront (record {
+            before = S.taken sink.old;
+            after = S.taken sink.new;
+            faults_before = S.faults sink.old;
+            faults_after = S.faults sink.new;
+        }) (joined (codes "slothy: read fault: " ∷ name.now ∷ codes "\n" ∷ []))
+    }
+{
+    tell(sink, &["slothy: read fault: ", name, "\n"]);
+}
+
+// Says how many bytes were written, in decimal digits.
+fn report_sent<S: Sink>(sink: &mut S, digits: &str)
+    ensures never_falls { S.faults sink.old ≤ S.faults sink.new }
+    ensures took {
+        TookFront (record {
+            before = S.taken sink.old;
+            after = S.taken sink.new;
+            faults_before = S.faults sink.old;
+            faults_after = S.faults sink.new;
+        }) (joined (codes "slothy: write fault after " ∷ digits.now ∷ codes " bytes\n" ∷ []))
+    }
+{
+    tell(sink, &["slothy: write fault after ", digits, " bytes\n"]);
+}
+
+// Says how many bytes were written.
+fn report_write_fault<S: Sink>(sink: &mut S, sent: u64)
+    ensures never_falls { S.faults sink.old ≤ S.faults sink.new }
+    ensures took {
+        TookFront (record {
+            before = S.taken sink.old;
+            after = S.taken sink.new;
+            faults_before = S.faults sink.old;
+            faults_after = S.faults sink.new;
+        }) (joined (codes "slothy: write fault after " ∷ decimal sent ∷ codes " bytes\n" ∷ []))
+    }
+{
+    let mut digits = Buffer::new();
+    report_sent(sink, digits.format(sent));
+}
+
+/// Writes the line of an ending, where the file has this name. It takes no memory, and goes as far as the sink takes it.
+#[tactic(auto, unfolding(crate::specs::Messages::message_of))]
+pub fn report<S: Sink>(sink: &mut S, name: &str, ending: Ending)
+    ensures never_falls { S.faults sink.old ≤ S.faults sink.new }
+    ensures took {
+        TookFront (record {
+            before = S.taken sink.old;
+            after = S.taken sink.new;
+            faults_before = S.faults sink.old;
+            faults_after = S.faults sink.new;
+        }) (message_of name.now ending)
+    }
+{
+    match ending {
+        Ending::Done => tell(sink, &[]),
+        Ending::Usage => tell(sink, &["slothy: usage: slothy MODE [INPUT] [OPTIONS]\n"]),
+        Ending::Stopped(stop) => report_stop(sink, name, stop),
+        Ending::ReadFault => report_read_fault(sink, name),
+        Ending::WriteFault { sent } => report_write_fault(sink, sent),
+        Ending::NoMemory => tell(sink, &["slothy: no memory\n"]),
+    }
+}
