@@ -1,5 +1,5 @@
 -- How a call of the command may end: each ending has its cause, and says what the output took.
-use Rattle.std.specs.Prelude.{ℕ, Bool, true, false, ◌≡◌, ◌<◌, List, [], length, take, Option, None, Some, Ok, Err, MatchOption, IfSome, MatchBool, ◌⊎◌}
+use Rattle.std.specs.Prelude.{ℕ, Bool, true, false, ◌≡◌, ◌<◌, List, [], length, take, Option, None, Some, Result, Ok, Err, MatchOption, IfSome, MatchBool, ◌⊎◌}
 use Rattle.std.specs.Io.KnownBytes.{append_known}
 use Rattle.sl_base.specs.Faults.{HasRisen}
 use Rattle.slothy_cli.specs.declared.stop.Quantity.{Quantity}
@@ -7,11 +7,12 @@ use Rattle.slothy_cli.specs.declared.stop.Quantity.TheVariants as quantities
 use Rattle.slothy_cli.specs.declared.stop.Stop.{Stop}
 use Rattle.slothy_cli.specs.declared.stop.Stop.TheVariants as stops
 use Rattle.slothy_cli.specs.declared.status.Status.{Status}
+use Rattle.slothy_cli.specs.declared.status.Status.TheVariants as statuses
 use Rattle.slothy_cli.specs.declared.status.Ending.{Ending}
 use Rattle.slothy_cli.specs.declared.status.Ending.TheVariants.{Done, Usage, Stopped, ReadFault, WriteFault, NoMemory}
 use Rattle.slothy_cli.specs.Command.{CostCommand, command_of}
 use Rattle.slothy_cli.specs.Outcome.{cost_outcome}
-use Rattle.slothy_cli.specs.Messages.{status_of, message_of}
+use Rattle.slothy_cli.specs.Messages.{stop_status, message_of}
 
 -- what is seen of the files over a call: how many calls on them had failed before and after it, and as it ends the
 -- bytes given since the last choice, the chosen name, and whether a call on the chosen file failed
@@ -100,3 +101,31 @@ pub record Call (words : List (List ℕ)) (holds : List ℕ → Option (List ℕ
   pub cause : MatchOption (command_of words) ((ending ≡ Usage) × TookNothing out) (λ c. Ends c (holds c.name) files out ending)
   -- the error output took the ending's message
   pub message : TookFront err (message_of (name_of (command_of words)) ending)
+
+-- Is this the status for a file whose bytes are known to have this outcome? Faults and want of memory come in between.
+abbrev pub IsStatusOf : Result (List ℕ) Stop → Status → Type 0
+IsStatusOf (Ok text) statuses.Done = Unit {0}
+IsStatusOf (Err stop) statuses.Done = ⊥
+IsStatusOf outcome statuses.Infeasible = ⊥
+IsStatusOf outcome statuses.Usage = ⊥
+IsStatusOf (Ok text) statuses.Refused = ⊥
+IsStatusOf (Err stop) statuses.Refused = stop_status stop ≡ statuses.Refused
+IsStatusOf outcome statuses.Budget = ⊥
+IsStatusOf outcome statuses.ReadFault = Unit {0}
+IsStatusOf (Ok text) statuses.WriteFault = Unit {0}
+IsStatusOf (Err stop) statuses.WriteFault = ⊥
+IsStatusOf outcome statuses.NoMemory = Unit {0}
+IsStatusOf outcome statuses.CheckNo = ⊥
+IsStatusOf (Ok text) statuses.TooLarge = ⊥
+IsStatusOf (Err stop) statuses.TooLarge = stop_status stop ≡ statuses.TooLarge
+IsStatusOf outcome statuses.TurnsSpent = ⊥
+
+-- what the output took of a text, and how that ends a call
+abbrev pub Delivers : SinkRun → List ℕ → Ending → Type 0
+Delivers out text Done = out.after ≡ append_known out.before text
+Delivers out text (WriteFault sent) =
+    HasRisen out.faults_before out.faults_after × (sent < length text) × (out.after ≡ append_known out.before (take sent text))
+Delivers out text Usage = ⊥
+Delivers out text (Stopped stop) = ⊥
+Delivers out text ReadFault = ⊥
+Delivers out text NoMemory = ⊥

@@ -5,6 +5,7 @@ pub mod command;
 mod cost;
 mod region;
 mod report;
+pub mod run;
 pub mod status;
 pub mod stop;
 mod work;

@@ -1,7 +1,7 @@
 //! How a call ends.
 
 ghost use Rattle.std.specs.Prelude.{◌≡◌};
-ghost use Rattle.slothy_cli.specs.Messages.{code_of};
+ghost use Rattle.slothy_cli.specs.Messages.{code_of, status_of};
 
 use crate::stop::Stop;
 
@@ -56,4 +56,21 @@ pub enum Ending {
     WriteFault { sent: u64 },
     /// Memory ran out.
     NoMemory,
+}
+
+impl Ending {
+    /// The status of the ending.
+    pub fn status(&self) -> Status
+        ensures { result ≡ status_of self.now }
+    {
+        match self {
+            Ending::Done => Status::Done,
+            Ending::Usage => Status::Usage,
+            Ending::Stopped(Stop::Refused { .. }) => Status::Refused,
+            Ending::Stopped(Stop::TooLarge { .. }) => Status::TooLarge,
+            Ending::ReadFault => Status::ReadFault,
+            Ending::WriteFault { .. } => Status::WriteFault,
+            Ending::NoMemory => Status::NoMemory,
+        }
+    }
 }
