@@ -2,3 +2,4 @@ pub mod Latency
 pub mod Items
 pub mod Telling
 pub mod Causes
+pub mod Calls

@@ -105,3 +105,55 @@ fn call<F: Files, O: Sink, E: Sink>(
     report(err, command.name, ending);
     ending
 }
+
+/// Runs the command that `words` ask for, of which the first is the program's name: reads its file from `files`, writes
+/// the text to `out`, and where there is none says why on `err`.
+///
+/// No thread is started yet, and `gate` isn't told of anything.
+pub fn run<R: Threads + Sync, F: Files, O: Sink, E: Sink, G: Gate + Sync>(
+    _rt: &R,
+    alloc: Global,
+    words: &[String],
+    files: &mut F,
+    out: &mut O,
+    err: &mut E,
+    _gate: &G,
+) -> Status
+    // The call ended in one way, with its cause, and says what the sinks took.
+    ensures call {
+        (ending : TheEnding) × (result ≡ status_of ending) × Call (map string_bytes words.now) (F.holds files.old) (record {
+            faults_before = F.faults files.old;
+            faults_after = F.faults files.new;
+            given = F.given files.new;
+            chosen = F.chosen files.new;
+            broken = F.broken files.new;
+        }) (record {
+            before = O.taken out.old;
+            after = O.taken out.new;
+            faults_before = O.faults out.old;
+            faults_after = O.faults out.new;
+        }) (record {
+            before = E.taken err.old;
+            after = E.taken err.new;
+            faults_before = E.faults err.old;
+            faults_after = E.faults err.new;
+        }) ending
+    }
+
+    // Wrong use is answered exactly where the words are wrong.
+    ensures usage { (result ≡ Status.Usage) ↔ (command_of (map string_bytes words.now) ≡ None) }
+
+    // Of a file whose bytes are known the status is that of its outcome, faults and want of memory aside.
+    ensures exact {
+        (c : Cost) (bytes : List ℕ) → command_of (map string_bytes words.now) ≡ Some c → F.holds files.old c.name ≡ Some bytes
+            → IsStatusOf (cost_outcome c.latency bytes) result
+    }
+
+    // What stays, and counts of faults never fall.
+    ensures same_files { F.holds files.new ≡ F.holds files.old }
+    ensures files_never_fall { F.faults files.old ≤ F.faults files.new }
+    ensures out_never_falls { O.faults out.old ≤ O.faults out.new }
+    ensures err_never_falls { E.faults err.old ≤ E.faults err.new }
+{
+    call(alloc, words, files, out, err).status()
+}
