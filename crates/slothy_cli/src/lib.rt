@@ -2,5 +2,7 @@
 #![tactic(auto)]
 
 pub mod command;
+mod cost;
+mod sources;
 pub mod status;
 pub mod stop;

@@ -1,0 +1,138 @@
+-- Items issued as they stand: their choices and times one by one, and the cycles that these have.
+use Rattle.std.proofs.Common.{◌≡◌, ℕ, zero, suc, ◌+◌, ◌*◌, ◌<◌, ◌≤◌, Bool, true, false, eqb, List, [], ◌∷◌, ◌++◌, length, map, get_or, EachIndex, refl, sym, ◌∙◌, ap, subst, ⊎_elim, arith}
+use Rattle.std.proofs.lemmas.Bool.{cases_Bool, cases_lt, eqb-true, eqb-false}
+use Rattle.std.proofs.lemmas.List.{map-append, length_push, get_or-replicate}
+use Rattle.std.proofs.Math.ListN.{get_or-append}
+use Rattle.std.proofs.Math.Seq.{get_or-append_seam}
+use Rattle.sl_model.specs.declared.instruction.Instr.{Instr}
+use Rattle.sl_model.specs.declared.schedule.Choice.{Choice}
+use Rattle.sl_model.specs.declared.schedule.Source.{Source}
+use Rattle.sl_model.specs.Source.{list_sources}
+use Rattle.sl_model.specs.Cycles.{CostTable, Issued, issue, push_of, timed_from, timed, cycles_of, cycle_of, row_of, no_row}
+use Rattle.sl_model.specs.Legal.{numbers_below}
+use Rattle.issue_cost.specs.Timeline.{IsFreeBy}
+use Rattle.issue_cost.proofs.IssueRule.{IsFreeBy-weaken}
+use Rattle.slothy_cli.specs.Above.{HasCycles}
+use Rattle.slothy_cli.specs.CostText.{own_choice, own_times, plain_costs, plain_row}
+
+-- further choices put before some, so that the last stands first
+pub newest_first : List Choice → List Choice → List Choice
+newest_first choices [] = choices
+newest_first choices (c ∷ rest) = newest_first (c ∷ choices) rest
+
+-- one more choice stands first
+newest_first-push : (choices rest : List Choice) (c : Choice) → newest_first choices (rest ++ c ∷ []) ≡ c ∷ newest_first choices rest
+unfolding newest_first
+newest_first-push choices [] c = refl
+newest_first-push choices (x ∷ rest) c = newest_first-push (x ∷ choices) rest c
+
+-- one more choice is issued behind all before it
+timed_from-push : (costs : CostTable) (sources : ℕ → List Source) (choices : List Choice) (done : List Issued) (rest : List Choice) (c : Choice) → timed_from costs sources choices done (rest ++ c ∷ []) ≡ issue (push_of costs (sources c.item) (newest_first choices rest) (timed_from costs sources choices done rest) c) (timed_from costs sources choices done rest) ∷ timed_from costs sources choices done rest
+unfolding newest_first timed_from
+timed_from-push costs sources choices done [] c = refl
+timed_from-push costs sources choices done (x ∷ rest) c =
+    timed_from-push costs sources (x ∷ choices) (issue (push_of costs (sources x.item) choices done x) done ∷ done) rest c
+
+-- the choices of the first items, the last first
+pub choices_after : List Instr → ℕ → List Choice
+choices_after items p = newest_first [] (map (own_choice items) (numbers_below p))
+
+-- when the first items are issued, the last first
+pub times_after : CostTable → List Instr → ℕ → List Issued
+times_after costs items p = timed costs (list_sources items) (map (own_choice items) (numbers_below p))
+
+-- an item behind those above it
+abbrev pub next_issued : CostTable → List Instr → ℕ → Issued
+next_issued costs items p = issue (push_of costs (list_sources items p) (choices_after items p) (times_after costs items p) (own_choice items p)) (times_after costs items p)
+
+-- the choices of the first items and one more
+own_choices-next : (items : List Instr) (p : ℕ) → map (own_choice items) (numbers_below (suc p)) ≡ map (own_choice items) (numbers_below p) ++ own_choice items p ∷ []
+unfolding numbers_below
+own_choices-next items p = map-append (own_choice items) (numbers_below p) (p ∷ [])
+
+choices_after-next : (items : List Instr) (p : ℕ) → choices_after items (suc p) ≡ own_choice items p ∷ choices_after items p
+unfolding choices_after
+choices_after-next items p =
+    ap (λ choices. newest_first [] choices) (own_choices-next items p)
+    ∙ newest_first-push [] (map (own_choice items) (numbers_below p)) (own_choice items p)
+
+pub times_after-next : (costs : CostTable) (items : List Instr) (p : ℕ) → times_after costs items (suc p) ≡ next_issued costs items p ∷ times_after costs items p
+unfolding times_after choices_after
+times_after-next costs items p =
+    ap (λ choices. timed costs (list_sources items) choices) (own_choices-next items p)
+    ∙ timed_from-push costs (list_sources items) [] [] (map (own_choice items) (numbers_below p)) (own_choice items p)
+
+-- no item is issued before the first one
+pub times_after-none : (costs : CostTable) (items : List Instr) → times_after costs items 0 ≡ []
+unfolding times_after numbers_below timed_from
+times_after-none costs items = refl
+
+-- all items are issued behind the last one
+pub times_after-all : (latency : ℕ) (items : List Instr) → times_after (plain_costs latency (length items)) items (length items) ≡ own_times latency items
+unfolding times_after own_times
+times_after-all latency items = refl
+
+pub length-times_after : (costs : CostTable) (items : List Instr) (p : ℕ) → length (times_after costs items p) ≡ p
+length-times_after costs items zero = ap length (times_after-none costs items)
+length-times_after costs items (suc p) = ap length (times_after-next costs items p) ∙ ap suc (length-times_after costs items p)
+
+-- each item issued has a cycle
+pub length-cycles_of : (done : List Issued) → length (cycles_of done) ≡ length done
+length-cycles_of [] = refl
+length-cycles_of (i ∷ done) = length_push (cycles_of done) i.cycle ∙ (let earlier : length (cycles_of done) ≡ length done = length-cycles_of done in omega arith)
+
+-- the cycle of an item among one more than those before
+cycle_of-next : (q : ℕ) (c : Choice) (i : Issued) (choices : List Choice) (done : List Issued) → c.item ≡ length done → q < suc (length done) → (q < length done → cycle_of q choices done ≡ get_or (cycles_of done) q 0) → cycle_of q (c ∷ choices) (i ∷ done) ≡ get_or (cycles_of done ++ i.cycle ∷ []) q 0
+unfolding cycle_of
+cycle_of-next q c i choices done last within earlier =
+    let len : length (cycles_of done) ≡ length done = length-cycles_of done in
+    ⊎_elim
+    (λ (test : eqb c.item q ≡ true).
+    let here : length (cycles_of done) ≡ q = len ∙ sym last ∙ eqb-true c.item q test in
+    rw test (sym (subst (λ n. get_or (cycles_of done ++ i.cycle ∷ []) n 0 ≡ i.cycle) here (get_or-append_seam (cycles_of done) i.cycle [] 0))))
+    (λ (test : eqb c.item q ≡ false).
+    let other : c.item ≡ q → ⊥ = eqb-false c.item q test in
+    let before : q < length done = omega arith in
+    let inside : q < length (cycles_of done) = omega arith in
+    rw test (earlier before ∙ sym (get_or-append (cycles_of done) (i.cycle ∷ []) 0 q inside)))
+    (cases_Bool (eqb c.item q))
+
+cycle_of-own : (costs : CostTable) (items : List Instr) (p q : ℕ) → q < p → cycle_of q (choices_after items p) (times_after costs items p) ≡ get_or (cycles_of (times_after costs items p)) q 0
+cycle_of-own costs items zero q within = absurd (omega arith)
+cycle_of-own costs items (suc p) q within =
+    let len : length (times_after costs items p) ≡ p = length-times_after costs items p in
+    let earlier : q < length (times_after costs items p) → cycle_of q (choices_after items p) (times_after costs items p) ≡ get_or (cycles_of (times_after costs items p)) q 0 =
+    λ before. cycle_of-own costs items p q (omega arith) in
+    rw (choices_after-next items p, times_after-next costs items p)
+    (cycle_of-next q (own_choice items p) (next_issued costs items p) (choices_after items p) (times_after costs items p) (sym len) (omega arith) earlier)
+
+-- the cycles of the first items are those that their choices have
+pub own_has_cycles : (costs : CostTable) (items : List Instr) (p : ℕ) (cycles : List ℕ) → cycles ≡ cycles_of (times_after costs items p) → HasCycles cycles (choices_after items p) (times_after costs items p)
+own_has_cycles costs items p cycles are = λ q within.
+    let len : length cycles ≡ p = ap length are ∙ length-cycles_of (times_after costs items p) ∙ length-times_after costs items p in
+    cycle_of-own costs items p q (omega arith) ∙ ap (λ cs. get_or cs q 0) (sym are)
+
+-- cycles are before the one by which all is free
+pub early_cycles : (limit : ℕ) (done : List Issued) (q : ℕ) → IsFreeBy limit done → q < length (cycles_of done) → get_or (cycles_of done) q 0 < limit
+early_cycles limit [] q free within = absurd (omega arith)
+early_cycles limit (i ∷ done) q free within =
+    let len : length (cycles_of done ++ i.cycle ∷ []) ≡ length (cycles_of done) + 1 = length_push (cycles_of done) i.cycle in
+    ⊎_elim
+    (λ (inside : q < length (cycles_of done)).
+    subst (λ n. n < limit) (sym (get_or-append (cycles_of done) (i.cycle ∷ []) 0 q inside)) (early_cycles limit done q free.2 inside))
+    (λ (outside : length (cycles_of done) ≤ q).
+    let here : length (cycles_of done) ≡ q = omega arith in
+    let last : i.cycle + 1 ≤ limit = free.0 in
+    let before : i.cycle < limit = omega arith in
+    subst (λ n. get_or (cycles_of done ++ i.cycle ∷ []) n 0 < limit) here
+    (subst (λ n. n < limit) (sym (get_or-append_seam (cycles_of done) i.cycle [] 0)) before))
+    (cases_lt q (length (cycles_of done)))
+
+-- with one more item all is free at most 256 cycles later
+pub IsFreeBy-next : (p : ℕ) (i : Issued) (done : List Issued) → IsFreeBy (256 * p) done → i.cycle < 256 * (p + 1) → i.busy ≡ 1 → IsFreeBy (256 * suc p) (i ∷ done)
+IsFreeBy-next p i done free early busy =
+    (omega arith, omega arith, IsFreeBy-weaken (256 * p) (256 * suc p) done (omega arith) free)
+
+-- each item keeps the unit for one cycle
+pub plain_busy : (latency n p : ℕ) → p < n → (row_of (plain_costs latency n) p).busy ≡ 1
+plain_busy latency n p within = ap (λ row. row.busy) (get_or-replicate n p (plain_row latency) no_row within)
