@@ -1,2 +1,3 @@
 pub mod Latency
 pub mod OwnTimes
+pub mod ReadyTimes

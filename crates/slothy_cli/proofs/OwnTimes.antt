@@ -1,6 +1,7 @@
 -- Items issued as they stand: their choices and times one by one, and the cycles that these have.
-use Rattle.std.proofs.Common.{◌≡◌, ℕ, zero, suc, ◌+◌, ◌*◌, ◌<◌, ◌≤◌, Bool, true, false, eqb, List, [], ◌∷◌, ◌++◌, length, map, get_or, EachIndex, refl, sym, ◌∙◌, ap, subst, ⊎_elim, arith}
-use Rattle.std.proofs.lemmas.Bool.{cases_Bool, cases_lt, eqb-true, eqb-false}
+use Rattle.std.proofs.Common.{◌≡◌, ℕ, zero, suc, ◌+◌, ◌*◌, ◌<◌, ◌≤◌, Bool, true, false, eqb, List, [], ◌∷◌, ◌++◌, length, map, get_or, EachIndex, IsTrue, nat_lt, replicate, refl, sym, ◌∙◌, ap, ap₂, subst, ⊎_elim, arith}
+use Rattle.std.proofs.lemmas.Bool.{cases_Bool, cases_lt, eqb-true, eqb-false, lt-ltb}
+use Rattle.std.specs.List.{list_all}
 use Rattle.std.proofs.lemmas.List.{map-append, length_push, get_or-replicate}
 use Rattle.std.proofs.Math.ListN.{get_or-append}
 use Rattle.std.proofs.Math.Seq.{get_or-append_seam}
@@ -8,10 +9,11 @@ use Rattle.sl_model.specs.declared.instruction.Instr.{Instr}
 use Rattle.sl_model.specs.declared.schedule.Choice.{Choice}
 use Rattle.sl_model.specs.declared.schedule.Source.{Source}
 use Rattle.sl_model.specs.Source.{list_sources}
-use Rattle.sl_model.specs.Cycles.{CostTable, Issued, issue, push_of, timed_from, timed, cycles_of, cycle_of, row_of, no_row}
+use Rattle.sl_model.specs.Cycles.{CostTable, Issued, issue, push_of, timed_from, timed, cycles_of, cycle_of, row_of, no_row, Push, ready_from, next_cycle, issued}
 use Rattle.sl_model.specs.Legal.{numbers_below}
 use Rattle.issue_cost.specs.Timeline.{IsFreeBy}
-use Rattle.issue_cost.proofs.IssueRule.{IsFreeBy-weaken}
+use Rattle.issue_cost.proofs.IssueRule.{IsFreeBy-weaken, issued_from-push}
+use Rattle.issue_cost.specs.Sound.{IsSound, is_sound_row}
 use Rattle.slothy_cli.specs.Above.{HasCycles}
 use Rattle.slothy_cli.specs.CostText.{own_choice, own_times, plain_costs, plain_row}
 
@@ -136,3 +138,43 @@ IsFreeBy-next p i done free early busy =
 -- each item keeps the unit for one cycle
 pub plain_busy : (latency n p : ℕ) → p < n → (row_of (plain_costs latency n) p).busy ≡ 1
 plain_busy latency n p within = ap (λ row. row.busy) (get_or-replicate n p (plain_row latency) no_row within)
+
+sound_rows : (latency n : ℕ) → 1 ≤ latency → IsTrue (list_all is_sound_row (replicate n (plain_row latency)))
+sound_rows latency zero some = refl
+sound_rows latency (suc n) some =
+    let test : nat_lt 0 latency ≡ true = lt-ltb 0 latency (omega arith) in
+    rw test (sound_rows latency n some)
+
+-- the core's costs are sound
+pub plain_costs-sound : (latency n : ℕ) → 1 ≤ latency → IsSound (plain_costs latency n)
+plain_costs-sound latency n some = record {
+  some_width = omega arith;
+  most_width = omega arith;
+  rows = sound_rows latency n some;
+  forwards = refl;
+}
+
+-- as many times as items
+pub length-own_times : (latency : ℕ) (items : List Instr) → length (own_times latency items) ≡ length items
+length-own_times latency items =
+    ap length (sym (times_after-all latency items)) ∙ length-times_after (plain_costs latency (length items)) items (length items)
+
+-- the push of an item that is ready when its sources are
+abbrev pub push_at : CostTable → ℕ → ℕ → Push
+push_at costs p ready = record { width = costs.width; unit = 0; busy = (row_of costs p).busy; ready = ready }
+
+-- when the sources of an item are ready, behind those above it
+abbrev pub own_ready : CostTable → List Instr → ℕ → ℕ
+own_ready costs items p = ready_from costs (choices_after items p) (times_after costs items p) p 0 (list_sources items p)
+
+-- with the push of an item, what is issued is that of one item more
+pub issued-own : (costs : CostTable) (items : List Instr) (p ready : ℕ) (pushes : List Push) → issued pushes ≡ times_after costs items p → ready ≡ own_ready costs items p → issued (pushes ++ push_at costs p ready ∷ []) ≡ times_after costs items (suc p)
+issued-own costs items p ready pushes are at =
+    issued_from-push [] pushes (push_at costs p ready)
+    ∙ ap (λ done. issue (push_at costs p ready) done ∷ done) are
+    ∙ ap (λ r. issue (push_at costs p r) (times_after costs items p) ∷ times_after costs items p) at
+    ∙ sym (times_after-next costs items p)
+
+-- its cycle is that of the item
+pub cycle-own : (costs : CostTable) (items : List Instr) (p ready : ℕ) (done : List Issued) → done ≡ times_after costs items p → ready ≡ own_ready costs items p → next_cycle costs.width 0 ready done ≡ (next_issued costs items p).cycle
+cycle-own costs items p ready done are at = ap₂ (λ r d. next_cycle costs.width 0 r d) at are
