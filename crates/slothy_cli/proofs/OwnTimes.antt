@@ -9,13 +9,13 @@ use Rattle.sl_model.specs.declared.instruction.Instr.{Instr}
 use Rattle.sl_model.specs.declared.schedule.Choice.{Choice}
 use Rattle.sl_model.specs.declared.schedule.Source.{Source}
 use Rattle.sl_model.specs.Source.{list_sources}
-use Rattle.sl_model.specs.Cycles.{CostTable, Issued, issue, push_of, timed_from, timed, cycles_of, cycle_of, row_of, no_row, Push, ready_from, next_cycle, issued}
+use Rattle.sl_model.specs.Cycles.{CostTable, Issued, issue, push_of, timed_from, timed, cycles_of, cycle_of, row_of, no_row, cycle_count, stalls, Push, ready_from, next_cycle, issued}
 use Rattle.sl_model.specs.Legal.{numbers_below}
 use Rattle.issue_cost.specs.Timeline.{IsFreeBy}
 use Rattle.issue_cost.proofs.IssueRule.{IsFreeBy-weaken, issued_from-push}
 use Rattle.issue_cost.specs.Sound.{IsSound, is_sound_row}
 use Rattle.slothy_cli.specs.Above.{HasCycles}
-use Rattle.slothy_cli.specs.CostText.{own_choice, own_times, plain_costs, plain_row}
+use Rattle.slothy_cli.specs.CostText.{cost_head, cost_lines, text_of, own_choice, own_times, plain_costs, plain_row}
 
 -- further choices put before some, so that the last stands first
 pub newest_first : List Choice → List Choice → List Choice
@@ -74,6 +74,10 @@ pub times_after-all : (latency : ℕ) (items : List Instr) → times_after (plai
 unfolding times_after own_times
 times_after-all latency items = refl
 
+-- behind as many items as there are, all are issued
+pub times_after-whole : (latency p : ℕ) (items : List Instr) → p ≡ length items → times_after (plain_costs latency (length items)) items p ≡ own_times latency items
+times_after-whole latency p items whole = ap (λ n. times_after (plain_costs latency (length items)) items n) whole ∙ times_after-all latency items
+
 pub length-times_after : (costs : CostTable) (items : List Instr) (p : ℕ) → length (times_after costs items p) ≡ p
 length-times_after costs items zero = ap length (times_after-none costs items)
 length-times_after costs items (suc p) = ap length (times_after-next costs items p) ∙ ap suc (length-times_after costs items p)
@@ -131,9 +135,9 @@ early_cycles limit (i ∷ done) q free within =
     (cases_lt q (length (cycles_of done)))
 
 -- with one more item all is free at most 256 cycles later
-pub IsFreeBy-next : (p : ℕ) (i : Issued) (done : List Issued) → IsFreeBy (256 * p) done → i.cycle < 256 * (p + 1) → i.busy ≡ 1 → IsFreeBy (256 * suc p) (i ∷ done)
+pub IsFreeBy-next : (p : ℕ) (i : Issued) (done : List Issued) → IsFreeBy (256 * p) done → i.cycle < 256 * (p + 1) → i.busy ≡ 1 → IsFreeBy (256 * (p + 1)) (i ∷ done)
 IsFreeBy-next p i done free early busy =
-    (omega arith, omega arith, IsFreeBy-weaken (256 * p) (256 * suc p) done (omega arith) free)
+    (omega arith, omega arith, IsFreeBy-weaken (256 * p) (256 * (p + 1)) done (omega arith) free)
 
 -- each item keeps the unit for one cycle
 pub plain_busy : (latency n p : ℕ) → p < n → (row_of (plain_costs latency n) p).busy ≡ 1
@@ -178,3 +182,11 @@ issued-own costs items p ready pushes are at =
 -- its cycle is that of the item
 pub cycle-own : (costs : CostTable) (items : List Instr) (p ready : ℕ) (done : List Issued) → done ≡ times_after costs items p → ready ≡ own_ready costs items p → next_cycle costs.width 0 ready done ≡ (next_issued costs items p).cycle
 cycle-own costs items p ready done are at = ap₂ (λ r d. next_cycle costs.width 0 r d) at are
+
+-- the text whose parts were written one after the other
+pub text-whole : (items : List Instr) (times : List Issued) (cycles : List ℕ) (count stalled : ℕ) (start head whole : List ℕ) → start ≡ [] → head ≡ start ++ cost_head (length items) count stalled → whole ≡ head ++ cost_lines 0 items cycles → cycles ≡ cycles_of times → count ≡ cycle_count times → stalled ≡ stalls 1 times → whole ≡ text_of items times
+text-whole items times cycles count stalled start head whole empty first lines are counts stalls =
+    lines
+    ∙ ap (λ h. h ++ cost_lines 0 items cycles) (first ∙ ap (λ s. s ++ cost_head (length items) count stalled) empty)
+    ∙ ap (λ cs. cost_head (length items) count stalled ++ cost_lines 0 items cs) are
+    ∙ ap₂ (λ n m. cost_head (length items) n m ++ cost_lines 0 items (cycles_of times)) counts stalls

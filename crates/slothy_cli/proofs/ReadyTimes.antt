@@ -37,7 +37,8 @@ ready-first costs choices done p operand now ready total first sources at before
     ∙ before
 
 -- past a register what it waits for is counted
-pub ready-some : (costs : CostTable) (choices : List Choice) (done : List Issued) (p operand now ready total k : ℕ) (source : Reg → Source) (registers : List (Option Reg)) (reg : Reg) → k < length registers → get_or registers k None ≡ Some reg → now ≡ ready_at costs choices done p operand (source reg) → max ready (ready_from costs choices done p operand (map source (filter_map (λ r. r) (drop k registers)))) ≡ total → max (max now ready) (ready_from costs choices done p (operand + 1) (map source (filter_map (λ r. r) (drop (k + 1) registers)))) ≡ total
-ready-some costs choices done p operand now ready total k source registers reg within there at before =
-    ready-first costs choices done p operand now ready total (source reg) (map source (filter_map (λ r. r) (drop (k + 1) registers))) at
+pub ready-some : (costs : CostTable) (choices : List Choice) (done : List Issued) (p operand now ready next total k : ℕ) (source : Reg → Source) (registers : List (Option Reg)) (reg : Reg) → k < length registers → get_or registers k None ≡ Some reg → now ≡ ready_at costs choices done p operand (source reg) → next ≡ max now ready → max ready (ready_from costs choices done p operand (map source (filter_map (λ r. r) (drop k registers)))) ≡ total → max next (ready_from costs choices done p (operand + 1) (map source (filter_map (λ r. r) (drop (k + 1) registers)))) ≡ total
+ready-some costs choices done p operand now ready next total k source registers reg within there at greatest before =
+    ap (λ n. max n (ready_from costs choices done p (operand + 1) (map source (filter_map (λ r. r) (drop (k + 1) registers))))) greatest
+    ∙ ready-first costs choices done p operand now ready total (source reg) (map source (filter_map (λ r. r) (drop (k + 1) registers))) at
     (subst (λ rs. max ready (ready_from costs choices done p operand (map source rs)) ≡ total) (filled-some registers k reg within there) before)

@@ -25,10 +25,9 @@ loop-register-preserved c =
       early = omega arith;
       few = omega (arith, c.loop-register.invariant.few);
       ready = λ choices done has.
-          ap (λ n. max n (ready_from c.args.costs.now choices done (length c.args.above.now) (c.loop-register.operand + 1) _)) new
-          ∙ ready-some c.args.costs.now choices done (length c.args.above.now) c.loop-register.operand c.ready_at.result c.loop-register.ready
+          ready-some c.args.costs.now choices done (length c.args.above.now) c.loop-register.operand c.ready_at.result c.loop-register.ready c.max-ready.result
           (ready_from c.args.costs.now choices done (length c.args.above.now) 0 (map (λ r. source_of r (reverse c.args.above.now)) (filter_map (λ r. r) c.args.registers.now)))
           c.loop-register.register-index (λ r. source_of r (reverse c.args.above.now)) c.args.registers.now c.in-Some.register c.loop-register-test.true c.in-Some.is
           (c.ready_at.ensures.ready choices done has ∙ ap (λ source. ready_at c.args.costs.now choices done (length c.args.above.now) c.loop-register.operand source) c.source_of-source.ensures.source)
-          (c.loop-register.invariant.ready choices done has);
+          new (c.loop-register.invariant.ready choices done has);
     }
