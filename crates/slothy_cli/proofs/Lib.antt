@@ -3,3 +3,5 @@ pub mod Items
 pub mod Telling
 pub mod Causes
 pub mod Calls
+pub mod OwnTimes
+pub mod ReadyTimes

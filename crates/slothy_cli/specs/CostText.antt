@@ -40,11 +40,14 @@ cost_lines number (i ∷ items) [] = []
 cost_lines number (i ∷ items) (cycle ∷ cycles) = cost_line number i cycle ++ cost_lines (number + 1) items cycles
 
 -- how many items there are, the cycles that they take and the stalls among these
-abbrev pub cost_head : ℕ → List Issued → List ℕ
-cost_head items times =
-    codes "kind=straight n=" ++ (decimal items ++ (codes " cycles=" ++ (decimal (cycle_count times) ++ (codes " stalls=" ++ (decimal (stalls 1 times) ++ codes "\n")))))
+abbrev pub cost_head : ℕ → ℕ → ℕ → List ℕ
+cost_head items cycles stalled =
+    codes "kind=straight n=" ++ (decimal items ++ (codes " cycles=" ++ (decimal cycles ++ (codes " stalls=" ++ (decimal stalled ++ codes "\n")))))
 
--- the text of `cost`: its head, and a line for each item
+-- the text of `cost` for items that are issued so, the last first: its head, and a line for each item
+abbrev pub text_of : List Instr → List Issued → List ℕ
+text_of items times = cost_head (length items) (cycle_count times) (stalls 1 times) ++ cost_lines 0 items (cycles_of times)
+
+-- the text of `cost`
 unfoldable pub cost_text : ℕ → List Instr → List ℕ
-cost_text latency items =
-    cost_head (length items) (own_times latency items) ++ cost_lines 0 items (cycles_of (own_times latency items))
+cost_text latency items = text_of items (own_times latency items)

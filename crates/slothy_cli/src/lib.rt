@@ -6,6 +6,7 @@ mod cost;
 mod region;
 mod report;
 pub mod run;
+mod sources;
 pub mod status;
 pub mod stop;
 mod work;
