@@ -67,7 +67,7 @@ pub record MemorySink : Type 0 where
 abbrev pub write_count : MemorySink → ℕ → ℕ
 write_count state length_of_piece = min length_of_piece (min state.most (state.room - length state.taken))
 
--- whether the next write fails: its call is to fail, or the piece has bytes and no room is left
+-- whether the next write fails: its call is to fail, or the piece has bytes and there is room for none
 abbrev pub write_fails : MemorySink → ℕ → Bool
 write_fails state length_of_piece =
     fails_at state.fails state.calls || (nat_lt 0 length_of_piece && nat_eq (write_count state length_of_piece) 0)

@@ -43,7 +43,7 @@ impl<R: fs::Files + Input + Drop> Model for HostFiles<R> {
 
 impl<R: fs::Files + Input + Drop> HostFiles<R> {
     /// The system's files, of which none is chosen yet.
-    pub fn new(alloc: Global, rt: R) -> HostFiles<R>
+    pub fn new(rt: R, alloc: Global) -> HostFiles<R>
         ensures { result ≡ record { chosen = []; given = 0; broken = false; faults = 0 } }
     {
         HostFiles {

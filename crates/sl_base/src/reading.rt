@@ -1,5 +1,5 @@
 //! Reading a whole file.
-ghost use Rattle.std.specs.Prelude.{◌≡◌, ℕ, ◌<◌, ◌≤◌, true, false, List, length, Some, IfOk, OnOk, vec_len};
+ghost use Rattle.std.specs.Prelude.{◌≡◌, ℕ, ◌<◌, ◌≤◌, true, false, List, length, Some, IfOk, OnOk, IsErr, vec_len};
 ghost use Rattle.sl_base.specs.Faults.{HasRisen};
 ghost use Rattle.sl_base.specs.Reading.{OnReadFault, IfTooLong};
 
@@ -46,6 +46,7 @@ pub fn read_all<F: Files>(
     ensures long_given { IfTooLong result (λ _. limit < F.given files.new) }
     ensures long_chosen { IfTooLong result (λ _. F.chosen files.new ≡ name.now) }
     ensures long_told { (bytes : List ℕ) → F.holds files.old name.now ≡ Some bytes → IfTooLong result (λ _. limit < length bytes) }
+    ensures long_not_ok { (bytes : List ℕ) → F.holds files.old name.now ≡ Some bytes → limit < length bytes → IsErr result }
 {
     match files.choose(name) {
         Ok(()) => read_rest(alloc, files, limit),
@@ -70,6 +71,7 @@ fn read_rest<F: Files>(alloc: Global, files: &mut F, limit: u64) -> Result<Vec<u
     ensures long_limit { IfTooLong result (λ n. n ≡ limit) }
     ensures long_given { IfTooLong result (λ _. limit < F.given files.new) }
     ensures long_told { (bytes : List ℕ) → F.left files.old ≡ Some bytes → IfTooLong result (λ _. limit < length bytes) }
+    ensures long_not_ok { (bytes : List ℕ) → F.left files.old ≡ Some bytes → limit < length bytes → IsErr result }
 {
     let mut text = Vec::new(alloc);
     let mut buffer = [0; PIECE];

@@ -1,7 +1,12 @@
+ghost use Rattle.std.specs.Prelude.{◌≡◌, ◌<◌};
+
 use crate::{
-    HostErr, HostFiles, HostOut, MemFiles, MemSink, ReadErr, WriteErr, read_all, write_all,
+    Gate, HostErr, HostFiles, HostOut, MemFiles, MemSink, NoGate, ReadErr, Steps, WriteErr,
+    read_all, tick, write_all,
 };
 use std::alloc::{AllocError, Global};
+use std::marker::Brand;
+use std::sync::ledger::{Blank, Ledger};
 use std::test::Fail;
 
 /// A file `long` of 5000 bytes, which is two pieces, and two files `twice`.
@@ -82,7 +87,7 @@ fn short_writes_and_room(rt: HostRuntime) -> Result<(), Fail> {
 #[test]
 fn the_systems_files_and_streams(rt: HostRuntime) -> Result<(), Fail> {
     let alloc = rt.alloc();
-    let mut files = HostFiles::new(alloc, &rt);
+    let mut files = HostFiles::new(&rt, alloc);
     assert_eq!(rt;
         read_all(alloc, &mut files, "/dev/null", 0).as_deref(),
         Ok([].as_slice())
@@ -98,4 +103,22 @@ fn the_systems_files_and_streams(rt: HostRuntime) -> Result<(), Fail> {
     assert_eq!(rt; write_all(&mut HostOut::new(rt.stdout()), b"out\n"), Ok(()));
     assert_eq!(rt; write_all(&mut HostErr::new(rt.stderr()), b"err\n"), Ok(()));
     Ok(())
+}
+
+/// Takes two steps, counted from 0 in the ledger that `blank` opens.
+fn two_steps<L: Ledger>(blank: Blank)
+    requires name { blank.name ≡ L.name }
+    requires parts { blank.parts ≡ L.parts }
+    requires some { 0 < blank.parts }
+{
+    let mut steps = Steps::<L>::new(blank);
+    tick(&mut steps);
+    tick(&mut steps);
+}
+
+// A caller opens a ledger of its own, and a gate that does nothing lets it pass.
+#[test]
+fn steps_and_gates() {
+    two_steps::<Brand>(Blank::new(1));
+    NoGate.enter(0);
 }
