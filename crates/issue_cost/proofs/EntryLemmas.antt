@@ -1,7 +1,7 @@
 -- Entries counted one behind the other: a push, a pop, the last one, and by when all is free.
-use Rattle.std.proofs.Common.{◌≡◌, ℕ, suc, ◌+◌, ◌*◌, ◌^◌, ◌<◌, ◌≤◌, List, [], ◌∷◌, ◌++◌, length, map, get_or, take, take_all, take-suc, refl, sym, ◌∙◌, ap, subst, arith}
+use Rattle.std.proofs.Common.{◌≡◌, ℕ, suc, ◌+◌, ◌*◌, ◌^◌, ◌<◌, ◌≤◌, List, [], ◌∷◌, ◌++◌, length, map, get_or, take, take_all, take-suc, sym, ◌∙◌, ap, subst, arith}
 use Rattle.std.proofs.lemmas.List.{map-append, length-map}
-use Rattle.sl_model.specs.Cycles.{Push, Issued, issue, issued_from, issued}
+use Rattle.sl_model.specs.Cycles.{Issued, issue, issued_from, issued}
 use Rattle.issue_cost.specs.declared.issue.Entry.{Entry}
 use Rattle.issue_cost.specs.Timeline.{IsFreeBy}
 use Rattle.issue_cost.specs.Entries.{pushed, IsCounted, AreCounted}

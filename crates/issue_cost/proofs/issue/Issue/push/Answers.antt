@@ -1,4 +1,4 @@
-use Rattle.std.proofs.Common.{◌≡◌, ℕ, ◌+◌, ◌≤◌, ◌<◌, [], ◌∷◌, length, subst, sym, ap, ◌∙◌, arith}
+use Rattle.std.proofs.Common.{◌≡◌, ◌+◌, ◌≤◌, [], ◌∷◌, length, subst, sym, ap, ◌∙◌, arith}
 use Rattle.sl_model.specs.Cycles.{issued, issued_at, next_cycle}
 use Rattle.issue_cost.specs.Tallies.{Tallies}
 use Rattle.issue_cost.specs.Entries.{AreCounted}
