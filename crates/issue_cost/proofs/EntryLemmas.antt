@@ -30,6 +30,11 @@ AreCounted-front done (x ∷ front) rest counted = (counted.0, AreCounted-front 
 pushed-push : (entries : List Entry) (e : Entry) → map pushed (entries ++ e ∷ []) ≡ map pushed entries ++ pushed e ∷ []
 pushed-push entries e = map-append pushed entries (e ∷ [])
 
+-- what is issued with one more entry
+pub issued-push : (entries : List Entry) (e : Entry) → issued (map pushed (entries ++ e ∷ [])) ≡ issue (pushed e) (issued (map pushed entries)) ∷ issued (map pushed entries)
+issued-push entries e =
+    ap (λ pushes. issued_from [] pushes) (pushed-push entries e) ∙ issued_from-push [] (map pushed entries) (pushed e)
+
 -- the last entry's tally is that of all items
 pub AreCounted-tally : (entries : List Entry) (k : ℕ) (d : Entry) → AreCounted [] entries → length entries ≡ k + 1 → Tallies (issued (map pushed entries)) (get_or entries k d).tally
 AreCounted-tally entries k d counted len =

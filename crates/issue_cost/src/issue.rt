@@ -64,6 +64,8 @@ impl Issue {
             ready = ready;
           } ∷ [];
         } }
+        ensures counted { issued self.new.pushes ≡
+            record { unit = unit; busy = (row_of costs.now item).busy; cycle = result } ∷ issued self.old.pushes }
         ensures fits { result ≤ 2 ^ 30 + 2 ^ 24 }
         ensures within { (limit : ℕ) → IsFreeBy limit (issued self.old.pushes) → ready ≤ limit → result ≤ limit }
     {
