@@ -1,7 +1,7 @@
 -- Entries counted one behind the other: a push, a pop, the last one, and by when all is free.
-use Rattle.std.proofs.Common.{◌≡◌, ℕ, suc, ◌+◌, ◌*◌, ◌^◌, ◌<◌, ◌≤◌, List, [], ◌∷◌, ◌++◌, length, map, get_or, take, take_all, take-suc, refl, sym, ◌∙◌, ap, subst, arith}
+use Rattle.std.proofs.Common.{◌≡◌, ℕ, suc, ◌+◌, ◌*◌, ◌^◌, ◌<◌, ◌≤◌, List, [], ◌∷◌, ◌++◌, length, map, get_or, take, take_all, take-suc, sym, ◌∙◌, ap, subst, arith}
 use Rattle.std.proofs.lemmas.List.{map-append, length-map}
-use Rattle.sl_model.specs.Cycles.{Push, Issued, issue, issued_from, issued}
+use Rattle.sl_model.specs.Cycles.{Issued, issue, issued_from, issued}
 use Rattle.issue_cost.specs.declared.issue.Entry.{Entry}
 use Rattle.issue_cost.specs.Timeline.{IsFreeBy}
 use Rattle.issue_cost.specs.Entries.{pushed, IsCounted, AreCounted}
@@ -29,6 +29,11 @@ AreCounted-front done (x ∷ front) rest counted = (counted.0, AreCounted-front 
 -- the pushes of some entries and one more
 pushed-push : (entries : List Entry) (e : Entry) → map pushed (entries ++ e ∷ []) ≡ map pushed entries ++ pushed e ∷ []
 pushed-push entries e = map-append pushed entries (e ∷ [])
+
+-- what is issued with one more entry
+pub issued-push : (entries : List Entry) (e : Entry) → issued (map pushed (entries ++ e ∷ [])) ≡ issue (pushed e) (issued (map pushed entries)) ∷ issued (map pushed entries)
+issued-push entries e =
+    ap (λ pushes. issued_from [] pushes) (pushed-push entries e) ∙ issued_from-push [] (map pushed entries) (pushed e)
 
 -- the last entry's tally is that of all items
 pub AreCounted-tally : (entries : List Entry) (k : ℕ) (d : Entry) → AreCounted [] entries → length entries ≡ k + 1 → Tallies (issued (map pushed entries)) (get_or entries k d).tally

@@ -1,7 +1,7 @@
 -- What the issue rule gives: the next cycle meets its four conditions, no smaller cycle does, and it isn't later than
 -- when all is free and ready.
-use Rattle.std.proofs.Common.{◌≡◌, ℕ, suc, ◌+◌, ◌*◌, ◌<◌, ◌≤◌, Bool, true, false, nat_lt, eqb, List, [], ◌∷◌, ◌++◌, length, map, max, if◌then◌else◌, refl, sym, ◌∙◌, ap, subst, ⊎_elim, zero-add, arith}
-use Rattle.std.proofs.lemmas.Bool.{cases_Bool, ne_eqb, eq-eqb, eqb-true, eqb-false, ltb-true, ltb-false}
+use Rattle.std.proofs.Common.{◌≡◌, ℕ, suc, ◌+◌, ◌<◌, ◌≤◌, Bool, true, false, nat_lt, eqb, List, [], ◌∷◌, ◌++◌, length, max, if◌then◌else◌, refl, sym, ◌∙◌, subst, ⊎_elim, zero-add, arith}
+use Rattle.std.proofs.lemmas.Bool.{cases_Bool, ne_eqb, eqb-true, eqb-false, ltb-true, ltb-false}
 use Rattle.sl_model.specs.Cycles.{Push, Issued, issued_at, first_slot, unit_free, next_cycle, last_cycle, MayIssue, issue, issued_from, cycle_count}
 use Rattle.issue_cost.specs.Timeline.{IsFreeBy}
 use Rattle.issue_cost.specs.Tallies.{NoneAfter}

@@ -1,12 +1,12 @@
 -- The rows and the forwards of sound costs have numbers of at least 1.
-use Rattle.std.proofs.Common.{◌≡◌, ℕ, ◌<◌, ◌≤◌, Bool, true, false, ◌&&◌, nat_lt, IsTrue, List, [], ◌∷◌, length, get_or, if◌then◌else◌, eqb, refl, ⊎_elim, arith}
+use Rattle.std.proofs.Common.{◌≡◌, ℕ, ◌<◌, ◌≤◌, Bool, true, false, ◌&&◌, nat_lt, List, [], ◌∷◌, length, get_or, if◌then◌else◌, eqb, refl, ⊎_elim, arith}
 use Rattle.std.specs.List.{list_all}
 use Rattle.std.proofs.lemmas.Bool.{cases_Bool, ltb-true}
 use Rattle.std.proofs.lemmas.List.Folds.{list_all_at}
-use Rattle.sl_model.specs.Cycles.{CostTable, row_of, no_row, is_place, forward_or, ready_after}
+use Rattle.sl_model.specs.Cycles.{forward_or}
 use Rattle.sl_model.specs.declared.schedule.CostRow.{CostRow}
 use Rattle.sl_model.specs.declared.schedule.Forward.{Forward}
-use Rattle.issue_cost.specs.Sound.{IsSound, is_sound_row, is_sound_forward}
+use Rattle.issue_cost.specs.Sound.{is_sound_row, is_sound_forward}
 
 -- both of two tests hold where their conjunction does
 both : (a b : Bool) → (a && b) ≡ true → (a ≡ true) × (b ≡ true)
@@ -25,7 +25,6 @@ row-is_sound rows i d sound within =
 
 -- the numbers of a sound row
 pub sound_row : (row : CostRow) → is_sound_row row ≡ true → (0 < row.units) × (0 < row.busy) × (0 < row.latency) × (0 < row.writeback)
-unfolding is_sound_row
 sound_row row sound =
     let one = both (nat_lt 0 row.units) (nat_lt 0 row.busy && (nat_lt 0 row.latency && nat_lt 0 row.writeback)) sound in
     let two = both (nat_lt 0 row.busy) (nat_lt 0 row.latency && nat_lt 0 row.writeback) one.1 in
@@ -39,7 +38,6 @@ choice false m n le le' = le'
 
 -- the latency of a sound forward
 sound_forward : (f : Forward) → is_sound_forward f ≡ true → 1 ≤ f.latency
-unfolding is_sound_forward
 sound_forward f sound =
     let least : 0 < f.latency = ltb-true 0 f.latency sound in
     omega arith

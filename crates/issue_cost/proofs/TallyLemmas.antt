@@ -1,10 +1,10 @@
 -- A tally kept with each item gives the next cycle.
-use Rattle.std.proofs.Common.{◌≡◌, ◌≢◌, ℕ, suc, ◌+◌, ◌<◌, ◌≤◌, Bool, true, false, nat_lt, eqb, List, [], ◌∷◌, length, set, get_or, max, if◌then◌else◌, refl, sym, ◌∙◌, ap, ap₂, subst, ⊎_elim, zero-add, length-set, arith}
-use Rattle.std.proofs.lemmas.Bool.{cases_Bool, ne_eqb, eq-eqb, eqb-true, eqb-false, ltb-true, ltb-false, lt-ltb, le-ltb}
+use Rattle.std.proofs.Common.{◌≡◌, ◌≢◌, ℕ, ◌+◌, ◌<◌, ◌≤◌, true, false, nat_lt, eqb, List, [], ◌∷◌, length, set, get_or, refl, sym, ◌∙◌, ap, subst, ⊎_elim, length-set, arith}
+use Rattle.std.proofs.lemmas.Bool.{cases_Bool, eq-eqb, eqb-true, eqb-false, lt-ltb, le-ltb}
 use Rattle.std.proofs.lemmas.List.{get_or-set_same, get_or-set_other}
-use Rattle.sl_model.specs.Cycles.{Issued, issued_at, first_slot, unit_free, next_cycle, last_cycle}
+use Rattle.sl_model.specs.Cycles.{Issued, issued_at, first_slot, unit_free}
 use Rattle.issue_cost.specs.declared.tally.Tally.{Tally}
-use Rattle.issue_cost.specs.Tallies.{Tallies, NoneAfter}
+use Rattle.issue_cost.specs.Tallies.{Tallies}
 use Rattle.issue_cost.proofs.IssueRule.{NoneAfter-weaken, issued_at-after}
 
 -- how many items a tally counts at the last cycle

@@ -1,5 +1,5 @@
 -- What the entries of an `Issue` keep.
-use Rattle.std.specs.Prelude.{ℕ, ◌+◌, ◌^◌, ◌<◌, ◌≤◌, List, [], ◌∷◌, length}
+use Rattle.std.specs.Prelude.{ℕ, ◌^◌, ◌≤◌, List, [], ◌∷◌, length}
 use Rattle.sl_model.specs.Cycles.{Push, Issued, issue}
 use Rattle.issue_cost.specs.declared.issue.Entry.{Entry}
 use Rattle.issue_cost.specs.Tallies.{Tallies}

@@ -1,5 +1,5 @@
 -- Which cost tables are taken.
-use Rattle.std.specs.Prelude.{ℕ, Bool, ◌&&◌, nat_lt, IsTrue, ◌≤◌}
+use Rattle.std.specs.Prelude.{Bool, ◌&&◌, nat_lt, IsTrue, ◌≤◌}
 use Rattle.std.specs.List.{list_all}
 use Rattle.sl_model.specs.Cycles.{CostTable}
 use Rattle.sl_model.specs.declared.schedule.CostRow.{CostRow}

@@ -37,7 +37,7 @@ impl Model for Costs {
 
 impl Costs {
     /// Keeps a core's width, from 1 to 8 items in a cycle, a row for each item, and the forwards. Each row has a unit,
-    /// and each number of cycles is at least 1.
+    /// and each number of cycles is at least 1. Of forwards for the same classes and operand the first counts.
     pub fn new(
         alloc: Global,
         width: u8,

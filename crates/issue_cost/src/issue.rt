@@ -18,7 +18,8 @@ struct Entry {
     tally: Tally,
 }
 
-/// The items issued so far, in order, in room made before.
+/// The items issued so far, in order, in room made before. A push, a pop and a question take the same time however many
+/// items there are.
 #[derive(Drop)]
 pub struct Issue {
     entries: Vec<Entry>,
@@ -47,7 +48,8 @@ impl Issue {
         Ok(Issue { entries })
     }
 
-    /// Issues one more item to a unit, where its operands are ready from the cycle `ready` on, and gives its cycle.
+    /// Issues one more item to a unit below 16, where its operands are ready from the cycle `ready` on, at most 2^30,
+    /// and gives its cycle. There has to be room for it. Each push counts with the width of the costs that it got.
     pub fn push(&mut self, costs: &Costs, item: u16, unit: u8, ready: u32) -> u32
         requires room { length self.old.pushes < self.old.room }
         requires item { item < length costs.now.rows }
@@ -62,6 +64,8 @@ impl Issue {
             ready = ready;
           } ∷ [];
         } }
+        ensures counted { issued self.new.pushes ≡
+            record { unit = unit; busy = (row_of costs.now item).busy; cycle = result } ∷ issued self.old.pushes }
         ensures fits { result ≤ 2 ^ 30 + 2 ^ 24 }
         ensures within { (limit : ℕ) → IsFreeBy limit (issued self.old.pushes) → ready ≤ limit → result ≤ limit }
     {
@@ -78,7 +82,7 @@ impl Issue {
         cycle
     }
 
-    /// Undoes the last push.
+    /// Undoes the last push, of which there has to be one.
     pub fn pop(&mut self)
         requires { 0 < length self.old.pushes }
         ensures last { (last : Push) × (self.old.pushes ≡ self.new.pushes ++ last ∷ []) }
@@ -88,7 +92,8 @@ impl Issue {
         let _ = self.entries.pop();
     }
 
-    /// The cycle that one more item would be issued at.
+    /// The cycle that one more item would be issued at: the least one that the issue rule allows. The unit is below 16,
+    /// and `ready` at most 2^30.
     pub fn cycle_for(&self, costs: &Costs, unit: u8, ready: u32) -> u32
         requires unit { unit < 16 }
         requires ready { ready ≤ 2 ^ 30 }

@@ -1,4 +1,4 @@
-ghost use Rattle.std.specs.Prelude.{ℕ, ◌≤◌, ◌<◌};
+ghost use Rattle.std.specs.Prelude.{◌≡◌, ℕ, ◌+◌, ◌≤◌, ◌<◌, length};
 
 use crate::{CostRow, Costs, Forward, Issue};
 use std::alloc::Global;
@@ -68,7 +68,22 @@ fn a_copy_answers_as_its_costs(rt: HostRuntime) -> Result<(), Fail> {
     Ok(())
 }
 
-/// The cycles of three items that are pushed one after the other: for each its number, its unit and when it is ready.
+/// Pushes an item, given by its number, its unit and when it is ready.
+fn pushed(rt: &impl Abort, issue: &mut Issue, costs: &Costs, item: (u16, u8, u32)) -> u32
+    requires room { length issue.old.pushes < issue.old.room }
+    requires rows { length costs.now.rows ≡ 2 }
+    ensures len { length issue.new.pushes ≡ length issue.old.pushes + 1 }
+    ensures room { issue.new.room ≡ issue.old.room }
+{
+    let (item, unit, ready) = item;
+    assert!(rt; item < 2 && unit < 16 && ready < 100);
+    let foreseen = issue.cycle_for(costs, unit, ready);
+    let cycle = issue.push(costs, item, unit, ready);
+    assert_eq!(rt; cycle, foreseen);
+    cycle
+}
+
+/// The cycles of three items that are pushed one after the other, the last of them twice.
 fn cycles_of(
     rt: &impl Abort,
     alloc: Global,
@@ -78,30 +93,18 @@ fn cycles_of(
     requires least { 1 ≤ width }
     requires most { width ≤ 8 }
 {
-    let [
-        (first, first_unit, first_ready),
-        (second, second_unit, second_ready),
-        (third, third_unit, third_ready),
-    ] = items;
-    assert!(rt; first < 2 && second < 2 && third < 2);
-    assert!(rt; first_unit < 16 && second_unit < 16 && third_unit < 16);
-    assert!(rt; first_ready < 100 && second_ready < 100 && third_ready < 100);
     let costs = Costs::new(alloc, width, &ROWS, &FORWARDS)?;
     let mut issue = Issue::with_room(alloc, 3)?;
     assert_eq!(rt; (issue.len(), issue.cycles()), (0, 0));
-    let first_cycle = issue.push(&costs, first, first_unit, first_ready);
-    let second_cycle = issue.push(&costs, second, second_unit, second_ready);
-    let foreseen = issue.cycle_for(&costs, third_unit, third_ready);
-    let third_cycle = issue.push(&costs, third, third_unit, third_ready);
-    assert_eq!(rt; foreseen, third_cycle);
-    assert_eq!(rt; (issue.len(), issue.cycles()), (3, third_cycle + 1));
+    let first = pushed(rt, &mut issue, &costs, items[0]);
+    let second = pushed(rt, &mut issue, &costs, items[1]);
+    let undone = pushed(rt, &mut issue, &costs, items[2]);
     issue.pop();
-    assert_eq!(rt; (issue.len(), issue.cycles()), (2, second_cycle + 1));
-    assert_eq!(rt;
-        issue.push(&costs, third, third_unit, third_ready),
-        third_cycle
-    );
-    Ok([first_cycle, second_cycle, third_cycle])
+    assert_eq!(rt; issue.len(), 2);
+    let third = pushed(rt, &mut issue, &costs, items[2]);
+    assert_eq!(rt; third, undone);
+    assert_eq!(rt; u64::from(issue.cycles()), u64::from(third) + 1);
+    Ok([first, second, third])
 }
 
 #[test]
@@ -132,7 +135,7 @@ fn items_wait_for_slots_operands_and_units(rt: HostRuntime) -> Result<(), Fail> 
             [0, 0, 3],
         ),
         (
-            "a late operand",
+            "a later operand",
             3,
             [(0, 0, 7), (0, 1, 0), (0, 2, 9)],
             [7, 7, 9],

@@ -1,4 +1,4 @@
-use Rattle.std.proofs.Common.{◌≡◌, ℕ, ◌≤◌, ◌<◌, subst, sym, ap, ◌∙◌, arith}
+use Rattle.std.proofs.Common.{◌≤◌, ◌<◌, subst, sym, ap, ◌∙◌, arith}
 use Rattle.sl_model.specs.Cycles.{forward_or}
 use Rattle.issue_cost.proofs.SoundRows.{sound_row, some_forward}
 use Rattle.issue_cost.proofs.costs.Costs.ready_after.Goals as goal

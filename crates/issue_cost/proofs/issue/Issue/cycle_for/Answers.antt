@@ -1,5 +1,5 @@
-use Rattle.std.proofs.Common.{◌≡◌, ℕ, ◌+◌, ◌*◌, ◌^◌, ◌≤◌, length, subst, sym, ap, ◌∙◌, arith}
-use Rattle.sl_model.specs.Cycles.{MayIssue, issued, next_cycle, last_cycle}
+use Rattle.std.proofs.Common.{◌≡◌, ◌+◌, ◌*◌, ◌^◌, ◌≤◌, length, subst, sym, ap, ◌∙◌, arith}
+use Rattle.sl_model.specs.Cycles.{MayIssue, issued, next_cycle}
 use Rattle.issue_cost.specs.Tallies.{NoneAfter}
 use Rattle.issue_cost.proofs.IssueRule.{next_cycle-may_issue, next_cycle-least, next_cycle-within}
 use Rattle.issue_cost.proofs.issue.Issue.cycle_for.Goals as goal

@@ -1,5 +1,5 @@
-use Rattle.std.proofs.Common.{◌≡◌, ℕ, ◌+◌, ◌<◌, [], length, ap, ◌∙◌, arith}
-use Rattle.sl_model.specs.Cycles.{issued, cycle_count}
+use Rattle.std.proofs.Common.{◌≡◌, ◌+◌, [], length, ap, ◌∙◌, arith}
+use Rattle.sl_model.specs.Cycles.{issued}
 use Rattle.issue_cost.proofs.IssueRule.{length-issued_from, cycle_count-last, cycle_count-none}
 use Rattle.issue_cost.proofs.issue.Issue.cycles.Goals as goal
 

@@ -1,4 +1,4 @@
-use Rattle.std.proofs.Common.{ℕ, ◌+◌, ◌≤◌, [], length, option_to_list, subst, arith, length-append}
+use Rattle.std.proofs.Common.{[], option_to_list, subst, arith}
 use Rattle.issue_cost.specs.Entries.{AreCounted}
 use Rattle.issue_cost.proofs.EntryLemmas.{AreCounted-front}
 use Rattle.issue_cost.proofs.issue.Issue.pop.Goals as goal

@@ -1,10 +1,9 @@
-use Rattle.std.proofs.Common.{◌≡◌, ℕ, ◌+◌, ◌*◌, ◌-◌, ◌^◌, List, [], length, get_or, map, subst, sym, ap, ◌∙◌, arith}
+use Rattle.std.proofs.Common.{◌≡◌, ◌+◌, ◌*◌, ◌-◌, ◌^◌, length, map, subst, sym, arith}
 use Rattle.std.proofs.lemmas.List.{nil_from_length}
 use Rattle.sl_model.specs.Cycles.{issued, issued_from}
 use Rattle.issue_cost.specs.Timeline.{IsFreeBy}
 use Rattle.issue_cost.specs.Tallies.{Tallies}
 use Rattle.issue_cost.specs.Entries.{pushed}
-use Rattle.issue_cost.specs.declared.issue.Entry.{Entry}
 use Rattle.issue_cost.proofs.EntryLemmas.{AreCounted-tally, all_free_by}
 use Rattle.issue_cost.proofs.issue.Issue.tally.Goals as goal
 

@@ -1,4 +1,4 @@
-use Rattle.std.proofs.Common.{ℕ, ◌≤◌, [], length, subst, sym, arith}
+use Rattle.std.proofs.Common.{[], subst, sym, arith}
 use Rattle.issue_cost.specs.Entries.{AreCounted}
 use Rattle.issue_cost.proofs.issue.Issue.with_room.Goals as goal
 

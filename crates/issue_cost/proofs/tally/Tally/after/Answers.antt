@@ -1,5 +1,4 @@
-use Rattle.std.proofs.Common.{◌≡◌, ℕ, ◌+◌, ◌<◌, List, set, refl, sym, ap}
-use Rattle.sl_model.specs.Cycles.{Issued}
+use Rattle.std.proofs.Common.{◌+◌, set, refl, ap}
 use Rattle.issue_cost.proofs.TallyLemmas.{Tallies-after}
 use Rattle.issue_cost.proofs.tally.Tally.after.Goals as goal
 

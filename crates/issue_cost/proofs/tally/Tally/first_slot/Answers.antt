@@ -1,4 +1,4 @@
-use Rattle.std.proofs.Common.{ℕ, ◌<◌, ◌≤◌, subst}
+use Rattle.std.proofs.Common.{◌<◌, ◌≤◌, subst}
 use Rattle.issue_cost.proofs.TallyLemmas.{first_slot-here, first_slot-next}
 use Rattle.issue_cost.proofs.tally.Tally.first_slot.Goals as goal
 
