@@ -1,5 +1,5 @@
 -- Lemmas on the lines of a text.
-use Rattle.std.proofs.Common.{append_assoc, ◌≡◌, ℕ, zero, suc, ◌+◌, ◌<◌, ◌≤◌, ◌⊎◌, Bool, true, false, cond, ◌&&◌, List, [], ◌∷◌, ◌++◌, map, length, take, drop, get_or, eqb, refl, sym, ap, ◌∙◌, inl, inr, subst, le_trans, arith, eqb-true, eq-eqb, ne_eqb, drop-cons, Option, Some, None, MatchOption, unwrap_or, Bor, All, IsUtf8, IsCharBoundary, length-append, take-append-drop}
+use Rattle.std.proofs.Common.{append_assoc, ◌≡◌, ℕ, zero, suc, ◌+◌, ◌<◌, ◌≤◌, ◌⊎◌, Bool, true, false, cond, ◌&&◌, List, [], ◌∷◌, ◌++◌, map, length, take, drop, get_or, eqb, refl, sym, ap, ◌∙◌, inl, inr, subst, le_trans, arith, eqb-true, eq-eqb, ne_eqb, drop-cons, Option, Some, None, MatchOption, unwrap_or, Bor, All, IsUtf8, IsCharBoundary, length-append}
 use Rattle.std.proofs.lemmas.Str.{IsCharBoundary-after_ascii, IsCharBoundary-end, utf8_valid_len-IsUtf8}
 use Rattle.std.specs.Str.Lossy.{utf8_valid_len}
 use Rattle.std.specs.List.{enumerate_from}

@@ -1,5 +1,5 @@
 -- Lemmas on words in a text.
-use Rattle.std.proofs.Common.{◌≡◌, ℕ, zero, suc, ◌+◌, Bool, true, false, cond, ◌&&◌, ◌||◌, ◌↔◌, List, [], ◌∷◌, ◌++◌, length, take, drop, nat_eq, eqb, refl, sym, ap, ◌∙◌, subst, eq-eqb, eqb-true, codes, drop-drop}
+use Rattle.std.proofs.Common.{◌≡◌, ℕ, ◌+◌, Bool, true, false, cond, ◌&&◌, ◌||◌, ◌↔◌, List, [], ◌∷◌, ◌++◌, length, drop, nat_eq, eqb, refl, sym, ap, ◌∙◌, subst, eq-eqb, eqb-true, codes, drop-drop}
 use Rattle.std.specs.List.{starts_with}
 use Rattle.std.specs.Str.Iter.{HasSubslice}
 use Rattle.sl_model.specs.Text.{holds, is_blank, is_quiet, skip_blanks, is_marker}
@@ -104,12 +104,3 @@ marker_quiet label line spelled e starts colon =
     ∙ ap (λ b. b && (starts_with nat_eq (drop (length label) (skip_blanks line)) (codes ":") && is_quiet (skip_blanks (drop 1 (drop (length label) (skip_blanks line)))))) starts'
     ∙ ap (λ b. b && is_quiet (skip_blanks (drop 1 (drop (length label) (skip_blanks line))))) colon'
     ∙ ap (λ t. is_quiet (skip_blanks (drop 1 (drop (length label) t)))) (sym e)
-
--- `is_marker` of a text whose parts are slices
-pub colon_test : (label spelled behind : List ℕ) (test : Bool) → behind ≡ drop (length label) spelled → test ≡ starts_with nat_eq behind (codes ":") → starts_with nat_eq (drop (length label) spelled) (codes ":") ≡ test
-colon_test label spelled behind test e f = ap (λ t. starts_with nat_eq t (codes ":")) (sym e) ∙ sym f
-
--- a blank at the front is skipped
-pub skip_blanks_more : (c : ℕ) (text : List ℕ) → is_blank c ≡ true → skip_blanks (c ∷ text) ≡ skip_blanks text
-unfolding skip_blanks
-skip_blanks_more c text e = ap (λ b. cond b (skip_blanks text) (c ∷ text)) e
