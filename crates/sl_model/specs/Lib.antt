@@ -2,3 +2,4 @@ pub mod Register
 pub mod Source
 pub mod Cycles
 pub mod Text
+pub mod Token

@@ -6,11 +6,11 @@ use Rattle.sl_model.specs.Text.{holds, is_blank, is_quiet, skip_blanks, is_marke
 
 -- ---- a word at a text's start
 
-both : (a b : Bool) → (a && b) ≡ true → (a ≡ true) × (b ≡ true)
+pub both : (a b : Bool) → (a && b) ≡ true → (a ≡ true) × (b ≡ true)
 both true b e = (refl, e)
 both false b e = cc
 
-starts_front : (word text : List ℕ) → starts_with nat_eq text word ≡ true → (rest : List ℕ) × (text ≡ word ++ rest)
+pub starts_front : (word text : List ℕ) → starts_with nat_eq text word ≡ true → (rest : List ℕ) × (text ≡ word ++ rest)
 starts_front [] text e = (text, refl)
 starts_front (x ∷ word) [] e = cc
 starts_front (x ∷ word) (c ∷ text) e =
@@ -18,7 +18,7 @@ starts_front (x ∷ word) (c ∷ text) e =
     let rest = starts_front word text tests.1 in
     (rest.0, ap (λ v. v ∷ text) (sym (eqb-true x c tests.0)) ∙ ap (λ v. x ∷ v) rest.1)
 
-front_starts : (word rest : List ℕ) → starts_with nat_eq (word ++ rest) word ≡ true
+pub front_starts : (word rest : List ℕ) → starts_with nat_eq (word ++ rest) word ≡ true
 front_starts [] rest = refl
 front_starts (x ∷ word) rest = ap (λ b. b && starts_with nat_eq (word ++ rest) word) (eq-eqb x x refl) ∙ front_starts word rest
 

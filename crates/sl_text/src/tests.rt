@@ -83,3 +83,4 @@ fn a_word_is_found_anywhere(rt: HostRuntime) {
         assert_eq!(rt; holds(text, word), want, "{word:?} in {text:?}");
     }
 }
+
