@@ -180,6 +180,25 @@ pub numbered_lines_short : (first : ℕ) (text : List ℕ) → All (λ line. len
 unfolding numbered_lines
 numbered_lines_short first text = subst (λ all. All (λ line. length line.1 ≤ length all) (enumerate_from first (map without_end (whole_lines text)))) (joined-whole_lines text) (short_lines first (whole_lines text))
 
+length-numbered : (first : ℕ) (lines : List (List ℕ)) → length (enumerate_from first (map without_end lines)) ≡ length lines
+length-numbered first [] = refl
+length-numbered first (line ∷ lines) = ap suc (length-numbered (first + 1) lines)
+
+few_step : (ends : Bool) (c : ℕ) (text : List ℕ) (lines : List (List ℕ)) → length lines ≤ length text → length (cond ends ((c ∷ []) ∷ lines) (prepend c lines)) ≤ suc (length text)
+few_step true c text lines few = omega arith
+few_step false c text [] few = omega arith
+few_step false c text (line ∷ lines) few = omega arith
+
+whole_lines_few : (text : List ℕ) → length (whole_lines text) ≤ length text
+unfolding whole_lines
+whole_lines_few [] = omega arith
+whole_lines_few (c ∷ text) = few_step (eqb c 10) c text (whole_lines text) (whole_lines_few text)
+
+-- a text has no more lines than bytes
+pub numbered_lines_few : (first : ℕ) (text : List ℕ) → length (numbered_lines first text) ≤ length text
+unfolding numbered_lines
+numbered_lines_few first text = subst (λ n. n ≤ length text) (sym (length-numbered first (whole_lines text))) (whole_lines_few text)
+
 pub numbered_lines-nil : (first : ℕ) (text : List ℕ) → text ≡ [] → numbered_lines first text ≡ []
 unfolding numbered_lines whole_lines
 numbered_lines-nil first text e = ap (λ t. numbered_lines first t) e

@@ -1,6 +1,8 @@
 -- Lemmas on the tokens of a line.
-use Rattle.std.proofs.Common.{◌≡◌, ℕ, zero, suc, ◌+◌, ◌-◌, ◌<◌, ◌≤◌, ◌⊎◌, Bool, true, false, cond, not, ◌&&◌, ◌||◌, List, [], ◌∷◌, ◌++◌, length, take, drop, get_or, nat_eq, eqb, refl, sym, ap, ◌∙◌, inl, inr, subst, arith, codes, IsUtf8, IsCharBoundary, encode_utf8, encode_utf8_all, length-append, take-append-drop, append_assoc, drop_of_length-le, drop-drop, eq-eqb, eqb-true, add-zero, slice_index, drop-cons}
+use Rattle.std.proofs.Common.{◌≡◌, ℕ, zero, suc, ◌+◌, ◌-◌, ◌<◌, ◌≤◌, ◌⊎◌, Bool, true, false, cond, not, ◌&&◌, ◌||◌, List, [], ◌∷◌, ◌++◌, length, take, drop, get_or, nat_eq, eqb, refl, sym, ap, ◌∙◌, inl, inr, subst, arith, codes, IsUtf8, IsCharBoundary, encode_utf8, encode_utf8_all, length-append, take-append-drop, append_assoc, drop_of_length-le, drop-drop, eq-eqb, eqb-true, add-zero, slice_index, drop-cons, All, length-take, Option, Some, None}
 use Rattle.std.proofs.lemmas.Bool.Decides.{nat_tests}
+use Rattle.std.proofs.lemmas.Iterator.{YieldsList}
+use Rattle.std.proofs.lemmas.Iterator.Consumers.{YieldsList-from_shown}
 use Rattle.std.proofs.lemmas.Str.{IsCharBoundary-start, IsCharBoundary-end, IsCharBoundary-after_ascii, IsCharBoundary-from_rest, IsCharBoundary-past_char, IsUtf8-drop, chars_past_char, byte_from_char, len_utf8_bounds}
 use Rattle.std.specs.Char.{is_ascii_alphanumeric, is_ascii_digit, len_utf8}
 use Rattle.std.specs.List.{starts_with, prefix_len}
@@ -9,8 +11,10 @@ use Rattle.sl_model.specs.declared.text.Comments.{Comments}
 use Rattle.sl_model.specs.declared.text.TokenKind.{TokenKind}
 use Rattle.sl_model.specs.declared.text.TokenKind.TheVariants.{Word, Number, Mark, Comment}
 use Rattle.sl_model.specs.Text.{is_blank, holds}
-use Rattle.sl_model.specs.Token.{Lexeme, begins_word, is_word_byte, comment_length, begins_line_comment, first_char, first_token, lexeme, tokens_from, tokens_at, leaves_open}
-use Rattle.sl_text.specs.Tokens.{shape, blanks_before, IsFirst}
+use Rattle.sl_model.specs.Token.{Lexeme, begins_word, is_word_byte, comment_length, begins_line_comment, first_char, first_token, lexeme, tokens_from, tokens_at, leaves_open, open_behind}
+use Rattle.sl_text.specs.Tokens.{shape, blanks_before, IsFirst, GivesToken, token_value, tokens_left, is_inside}
+use Rattle.sl_text.specs.declared.token.Token.{Token}
+use Rattle.sl_text.specs.declared.token.Tokens.{Tokens}
 use Rattle.sl_text.proofs.LineLemmas.{Ends, EndsAt, ends_later, ends_boundary}
 use Rattle.sl_text.proofs.WordLemmas.{starts_front, front_starts, both}
 
@@ -347,6 +351,65 @@ tokens_next comments inside place text blanks rest found token behind unclosed b
     ∙ ap (λ u. record { kind = found.0; text = token; start = start } ∷ tokens_at comments u (start + n) (drop n rest)) (sym unclosed_is)
     ∙ ap (λ d. record { kind = found.0; text = token; start = start } ∷ tokens_at comments unclosed (start + n) d) (sym behind_is)
 
+few_step : (blank : Bool) (token : Lexeme) (n : ℕ) (behind rest : List Lexeme) → length behind ≤ n → length rest ≤ n → length (cond blank behind (token ∷ rest)) ≤ suc n
+few_step true token n behind rest few more = omega arith
+few_step false token n behind rest few more = omega arith
+
+tokens_from_few : (comments : Comments) (place taken : ℕ) (text : List ℕ) → length (tokens_from comments place taken text) ≤ length text
+unfolding tokens_from
+tokens_from_few comments place taken [] = omega arith
+tokens_from_few comments place (suc taken) (c ∷ text) = let few : length (tokens_from comments (place + 1) taken text) ≤ length text = tokens_from_few comments (place + 1) taken text in omega arith
+tokens_from_few comments place zero (c ∷ text) =
+    let left = (first_token comments (c ∷ text)).1 - 1 in
+    few_step (is_blank c) (lexeme (first_token comments (c ∷ text)) place (c ∷ text)) (length text) (tokens_from comments (place + 1) 0 text) (tokens_from comments (place + 1) left text)
+    (tokens_from_few comments (place + 1) 0 text) (tokens_from_few comments (place + 1) left text)
+
+comment_few : (comments : Comments) (place n c : ℕ) (text : List ℕ) → 0 < n → length (tokens_from comments place n (c ∷ text)) ≤ length text
+unfolding tokens_from
+comment_few comments place zero c text some = absurd (omega arith)
+comment_few comments place (suc n) c text some = tokens_from_few comments (place + 1) n text
+
+-- a text has no more tokens than bytes
+pub tokens_few : (comments : Comments) (inside : Bool) (place : ℕ) (text : List ℕ) → length (tokens_at comments inside place text) ≤ length text
+unfolding tokens_at
+tokens_few comments false place text = tokens_from_few comments place 0 text
+tokens_few comments true place [] = omega arith
+tokens_few comments true place (c ∷ text) =
+    let few : length (tokens_from comments place (comment_length (c ∷ text)) (c ∷ text)) ≤ length text = comment_few comments place (comment_length (c ∷ text)) c text (comment_some (c ∷ text) (omega arith)) in
+    omega arith
+
+all_nil : {X : Type 0} (P : X → Type 0) → All P []
+all_nil P k d below = absurd (omega arith)
+
+all_cons : {X : Type 0} (P : X → Type 0) (x : X) (xs : List X) → P x → All P xs → All P (x ∷ xs)
+all_cons P x xs here rest zero d below = here
+all_cons P x xs here rest (suc k) d below = rest k d (omega arith)
+
+within_step : (end : ℕ) (blank : Bool) (token : Lexeme) (behind rest : List Lexeme) → token.start + length token.text ≤ end → All (λ t. t.start + length t.text ≤ end) behind → All (λ t. t.start + length t.text ≤ end) rest → All (λ t. t.start + length t.text ≤ end) (cond blank behind (token ∷ rest))
+within_step end true token behind rest here all more = all
+within_step end false token behind rest here all more = all_cons (λ t. t.start + length t.text ≤ end) token rest here more
+
+tokens_from_within : (comments : Comments) (place taken : ℕ) (text : List ℕ) (end : ℕ) → place + length text ≤ end → All (λ t. t.start + length t.text ≤ end) (tokens_from comments place taken text)
+unfolding tokens_from
+tokens_from_within comments place taken [] end fits = all_nil (λ t. t.start + length t.text ≤ end)
+tokens_from_within comments place (suc taken) (c ∷ text) end fits = tokens_from_within comments (place + 1) taken text end (omega arith)
+tokens_from_within comments place zero (c ∷ text) end fits =
+    let n = (first_token comments (c ∷ text)).1 in
+    let size = length-take n (c ∷ text) in
+    within_step end (is_blank c) (lexeme (first_token comments (c ∷ text)) place (c ∷ text)) (tokens_from comments (place + 1) 0 text) (tokens_from comments (place + 1) (n - 1) text)
+    (omega (arith, size)) (tokens_from_within comments (place + 1) 0 text end (omega arith)) (tokens_from_within comments (place + 1) (n - 1) text end (omega arith))
+
+-- no token passes the end of its line
+pub tokens_within : (comments : Comments) (inside : Bool) (place : ℕ) (text : List ℕ) → All (λ t. t.start + length t.text ≤ place + length text) (tokens_at comments inside place text)
+unfolding tokens_at
+tokens_within comments false place text = tokens_from_within comments place 0 text (place + length text) (omega arith)
+tokens_within comments true place [] = all_nil (λ t. t.start + length t.text ≤ place + 0)
+tokens_within comments true place (c ∷ text) =
+    let n = comment_length (c ∷ text) in
+    let end = place + suc (length text) in
+    let size = length-take n (c ∷ text) in
+    all_cons (λ t. t.start + length t.text ≤ end) (lexeme (Comment, n) place (c ∷ text)) (tokens_from comments place n (c ∷ text)) (omega (arith, size)) (tokens_from_within comments place n (c ∷ text) end (omega arith))
+
 -- the length of a comment that is open at a place
 pub comment_length_here : (text : List ℕ) (place : ℕ) → place < length text → starts_with nat_eq (drop place text) (codes "*/") ≡ true → comment_length (drop place text) ≡ 2
 unfolding comment_length
@@ -374,3 +437,20 @@ comment_length_le text = within (comment_length text) (comment_ends text)
 pub comment_length-nil : comment_length [] ≡ 0
 unfolding comment_length
 comment_length-nil = refl
+
+-- ---- the iterator
+
+-- whether a comment is open behind all the tokens stays as it was
+pub open_behind_same : (old new : Tokens) (given : Option Token) → GivesToken old given new → open_behind (is_inside new) (tokens_left new) ≡ open_behind (is_inside old) (tokens_left old)
+unfolding open_behind
+open_behind_same old new None gives = ap (open_behind (is_inside new)) gives.tokens.1 ∙ gives.inside ∙ sym (ap (open_behind (is_inside old)) gives.tokens.0)
+open_behind_same old new (Some token) gives = sym (ap (open_behind (is_inside old)) gives.tokens ∙ ap (λ inside. open_behind inside (tokens_left new)) (sym gives.inside))
+
+-- where no token is left, it says whether a comment is open behind them all
+pub open_behind_end : (old new : Tokens) → GivesToken old None new → is_inside new ≡ open_behind (is_inside old) (tokens_left old)
+unfolding open_behind
+open_behind_end old new gives = gives.inside ∙ sym (ap (open_behind (is_inside old)) gives.tokens.0)
+
+-- the iterator gives the tokens that are left, one after the other
+pub tokens_yield : (left : Tokens) → YieldsList GivesToken token_value left (tokens_left left)
+tokens_yield left = YieldsList-from_shown GivesToken token_value tokens_left (λ old new gives. ap length gives.tokens.0) (λ old token new gives. gives.tokens) left

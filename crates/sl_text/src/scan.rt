@@ -17,6 +17,8 @@ pub fn tokens<'a>(line: Line<'a>, comments: Comments, inside: bool) -> Tokens<'a
     requires { length line.text.now < 2 ^ 31 }
     ensures all { tokens_left result ≡ spec.tokens comments inside line.entry.text.now }
     ensures state { is_inside result ≡ inside }
+    ensures count { length (tokens_left result) ≤ length line.entry.text.now }
+    ensures within { All (λ token. token.start + length token.text ≤ length line.entry.text.now) (tokens_left result) }
 {
     Tokens {
         rest: line.text,
