@@ -2,6 +2,7 @@ pub mod Register
 pub mod Source
 pub mod Cycles
 pub mod Text
+<<<<<<< HEAD
 pub mod State
 pub mod Isa
 pub mod Exec
@@ -10,3 +11,6 @@ pub mod RegSets
 pub mod Lawful
 pub mod Legal
 pub mod Program
+=======
+pub mod Token
+>>>>>>> text

@@ -1,4 +1,4 @@
-//! What a cut answers.
+//! What a cut answers, and the kinds of tokens and comments.
 
 /// Why a text has no region.
 #[derive(Clone, Copy, Debug, PartialEq, Eq)]
@@ -9,4 +9,26 @@ pub enum CutRefusal {
     NoEnd,
     /// A marker stands a second time, at this line, counted from 1.
     Twice { line: u32 },
+}
+
+/// What a token of a line is.
+#[derive(Clone, Copy, Debug, PartialEq, Eq)]
+pub enum TokenKind {
+    /// A longest run of letters, digits and `_` that starts with a letter or `_`.
+    Word,
+    /// A longest run of letters and digits that starts with a digit.
+    Number,
+    /// A single character of any other kind that is no blank.
+    Mark,
+    /// A comment, or what stands of it on the line.
+    Comment,
+}
+
+/// Which characters start a comment to the line's end; `/*` starts one that runs to `*/` in either case.
+#[derive(Clone, Copy, Debug, PartialEq, Eq)]
+pub enum Comments {
+    /// `//` alone.
+    Slash,
+    /// `//` and `@`.
+    SlashAt,
 }

@@ -1,7 +1,7 @@
 -- Lemmas on marker lines and the cut at them.
-use Rattle.std.proofs.Common.{◌≡◌, ℕ, ◌+◌, ◌-◌, ◌<◌, ◌≤◌, Bool, true, false, cond, List, [], ◌∷◌, ◌++◌, length, take, drop, nat_lt, Ok, Err, refl, sym, ap, ◌∙◌, subst, arith, lt-ltb, le-ltb, append_assoc, drop-drop}
+use Rattle.std.proofs.Common.{◌≡◌, ℕ, ◌+◌, ◌-◌, ◌<◌, ◌≤◌, true, false, cond, List, [], ◌∷◌, ◌++◌, take, drop, nat_lt, Ok, Err, sym, ap, ◌∙◌, arith, lt-ltb, le-ltb, drop-drop}
 use Rattle.std.proofs.lemmas.List.{append_cancel_right}
-use Rattle.sl_model.specs.Text.{whole_lines, without_end, is_marker, marker_numbers, joined, cut, cut_at, parts_at, Parts}
+use Rattle.sl_model.specs.Text.{whole_lines, without_end, is_marker, marker_numbers, joined, cut, cut_at, parts_at}
 use Rattle.sl_model.specs.declared.text.CutRefusal.{CutRefusal}
 use Rattle.sl_model.specs.declared.text.CutRefusal.TheVariants.{NoStart, NoEnd, Twice}
 use Rattle.sl_text.specs.Cut.{IsMarkerAt, EndsIn, only_number}

@@ -1,3 +1,4 @@
 pub mod CutLemmas
 pub mod LineLemmas
+pub mod TokenLemmas
 pub mod WordLemmas

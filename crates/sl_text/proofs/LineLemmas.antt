@@ -1,5 +1,5 @@
 -- Lemmas on the lines of a text.
-use Rattle.std.proofs.Common.{append_assoc, ◌≡◌, ℕ, zero, suc, ◌+◌, ◌<◌, ◌≤◌, ◌⊎◌, Bool, true, false, cond, ◌&&◌, List, [], ◌∷◌, ◌++◌, map, length, take, drop, get_or, eqb, refl, sym, ap, ◌∙◌, inl, inr, subst, le_trans, arith, eqb-true, eq-eqb, ne_eqb, drop-cons, Option, Some, None, MatchOption, unwrap_or, Bor, All, IsUtf8, IsCharBoundary, length-append, take-append-drop}
+use Rattle.std.proofs.Common.{append_assoc, ◌≡◌, ℕ, zero, suc, ◌+◌, ◌<◌, ◌≤◌, ◌⊎◌, Bool, true, false, cond, ◌&&◌, List, [], ◌∷◌, ◌++◌, map, length, take, drop, get_or, eqb, refl, sym, ap, ◌∙◌, inl, inr, subst, le_trans, arith, eqb-true, eq-eqb, ne_eqb, drop-cons, Option, Some, None, MatchOption, unwrap_or, Bor, All, IsUtf8, IsCharBoundary, length-append}
 use Rattle.std.proofs.lemmas.Str.{IsCharBoundary-after_ascii, IsCharBoundary-end, utf8_valid_len-IsUtf8}
 use Rattle.std.specs.Str.Lossy.{utf8_valid_len}
 use Rattle.std.specs.List.{enumerate_from}
@@ -39,22 +39,22 @@ pub line_length_long : (text : List ℕ) → 0 < length text → 0 < line_length
 line_length_long [] some = absurd (omega arith)
 line_length_long (c ∷ text) some = line_length_some c text
 
--- a line of n bytes ends at a line feed, the byte at k
-record EndsAt (text : List ℕ) (n k : ℕ) : Type 0 where
-  place : n ≡ k + 1
-  within : k < length text
-  feed : get_or text k 0 ≡ 10
+-- the first n bytes of a text end in an ASCII byte, that at k
+pub record EndsAt (text : List ℕ) (n k : ℕ) : Type 0 where
+  pub place : n ≡ k + 1
+  pub within : k < length text
+  pub ascii : get_or text k 0 < 128
 
--- a line of n bytes is the whole text, or ends at a line feed
-abbrev Ends : List ℕ → ℕ → Type 0
+-- the first n bytes of a text are the whole text, or end in an ASCII byte
+abbrev pub Ends : List ℕ → ℕ → Type 0
 Ends text n = (n ≡ length text) ⊎ ((k : ℕ) × EndsAt text n k)
 
-ends_later : (c : ℕ) (text : List ℕ) (n : ℕ) → Ends text n → Ends (c ∷ text) (suc n)
+pub ends_later : (c : ℕ) (text : List ℕ) (n : ℕ) → Ends text n → Ends (c ∷ text) (suc n)
 ends_later c text n (inl e) = inl (ap suc e)
-ends_later c text n (inr at) = let k = at.0 in let place : n ≡ k + 1 = at.1.place in let within : k < length text = at.1.within in inr (suc k, record { place = omega arith; within = omega arith; feed = at.1.feed })
+ends_later c text n (inr at) = let k = at.0 in let place : n ≡ k + 1 = at.1.place in let within : k < length text = at.1.within in inr (suc k, record { place = omega arith; within = omega arith; ascii = at.1.ascii })
 
 ends_step : (ends : Bool) (c : ℕ) (text : List ℕ) (n : ℕ) → (ends ≡ true → c ≡ 10) → Ends text n → Ends (c ∷ text) (cond ends 1 (suc n))
-ends_step true c text n feed e = inr (0, record { place = omega arith; within = omega arith; feed = feed refl })
+ends_step true c text n feed e = inr (0, record { place = omega arith; within = omega arith; ascii = (let is : c ≡ 10 = feed refl in omega arith) })
 ends_step false c text n feed e = ends_later c text n e
 
 line_length_ends : (text : List ℕ) → Ends text (line_length text)
@@ -62,11 +62,9 @@ unfolding line_length
 line_length_ends [] = inl refl
 line_length_ends (c ∷ text) = ends_step (eqb c 10) c text (line_length text) (λ e. eqb-true c 10 e) (line_length_ends text)
 
-ends_boundary : (text : List ℕ) (n : ℕ) → IsUtf8 text → Ends text n → IsCharBoundary text n
+pub ends_boundary : (text : List ℕ) (n : ℕ) → IsUtf8 text → Ends text n → IsCharBoundary text n
 ends_boundary text n utf8 (inl e) = subst (IsCharBoundary text) (sym e) (IsCharBoundary-end text)
-ends_boundary text n utf8 (inr at) =
-    let ascii : get_or text at.0 0 < 128 = let feed : get_or text at.0 0 ≡ 10 = at.1.feed in omega arith in
-    subst (IsCharBoundary text) (sym at.1.place) (IsCharBoundary-after_ascii text at.0 utf8 at.1.within ascii)
+ends_boundary text n utf8 (inr at) = subst (IsCharBoundary text) (sym at.1.place) (IsCharBoundary-after_ascii text at.0 utf8 at.1.within at.1.ascii)
 
 -- a text may be cut behind its first line
 pub line_length_boundary : (text : List ℕ) → IsUtf8 text → IsCharBoundary text (line_length text)
@@ -181,6 +179,25 @@ short_lines first (line ∷ lines) (suc k) d h = le_trans (short_lines (first + 
 pub numbered_lines_short : (first : ℕ) (text : List ℕ) → All (λ line. length line.1 ≤ length text) (numbered_lines first text)
 unfolding numbered_lines
 numbered_lines_short first text = subst (λ all. All (λ line. length line.1 ≤ length all) (enumerate_from first (map without_end (whole_lines text)))) (joined-whole_lines text) (short_lines first (whole_lines text))
+
+length-numbered : (first : ℕ) (lines : List (List ℕ)) → length (enumerate_from first (map without_end lines)) ≡ length lines
+length-numbered first [] = refl
+length-numbered first (line ∷ lines) = ap suc (length-numbered (first + 1) lines)
+
+few_step : (ends : Bool) (c : ℕ) (text : List ℕ) (lines : List (List ℕ)) → length lines ≤ length text → length (cond ends ((c ∷ []) ∷ lines) (prepend c lines)) ≤ suc (length text)
+few_step true c text lines few = omega arith
+few_step false c text [] few = omega arith
+few_step false c text (line ∷ lines) few = omega arith
+
+whole_lines_few : (text : List ℕ) → length (whole_lines text) ≤ length text
+unfolding whole_lines
+whole_lines_few [] = omega arith
+whole_lines_few (c ∷ text) = few_step (eqb c 10) c text (whole_lines text) (whole_lines_few text)
+
+-- a text has no more lines than bytes
+pub numbered_lines_few : (first : ℕ) (text : List ℕ) → length (numbered_lines first text) ≤ length text
+unfolding numbered_lines
+numbered_lines_few first text = subst (λ n. n ≤ length text) (sym (length-numbered first (whole_lines text))) (whole_lines_few text)
 
 pub numbered_lines-nil : (first : ℕ) (text : List ℕ) → text ≡ [] → numbered_lines first text ≡ []
 unfolding numbered_lines whole_lines

@@ -1,16 +1,16 @@
 -- Lemmas on words in a text.
-use Rattle.std.proofs.Common.{◌≡◌, ℕ, zero, suc, ◌+◌, Bool, true, false, cond, ◌&&◌, ◌||◌, ◌↔◌, List, [], ◌∷◌, ◌++◌, length, take, drop, nat_eq, eqb, refl, sym, ap, ◌∙◌, subst, eq-eqb, eqb-true, codes, drop-drop}
+use Rattle.std.proofs.Common.{◌≡◌, ℕ, ◌+◌, Bool, true, false, cond, ◌&&◌, ◌||◌, ◌↔◌, List, [], ◌∷◌, ◌++◌, length, drop, nat_eq, eqb, refl, sym, ap, ◌∙◌, subst, eq-eqb, eqb-true, codes, drop-drop}
 use Rattle.std.specs.List.{starts_with}
 use Rattle.std.specs.Str.Iter.{HasSubslice}
 use Rattle.sl_model.specs.Text.{holds, is_blank, is_quiet, skip_blanks, is_marker}
 
 -- ---- a word at a text's start
 
-both : (a b : Bool) → (a && b) ≡ true → (a ≡ true) × (b ≡ true)
+pub both : (a b : Bool) → (a && b) ≡ true → (a ≡ true) × (b ≡ true)
 both true b e = (refl, e)
 both false b e = cc
 
-starts_front : (word text : List ℕ) → starts_with nat_eq text word ≡ true → (rest : List ℕ) × (text ≡ word ++ rest)
+pub starts_front : (word text : List ℕ) → starts_with nat_eq text word ≡ true → (rest : List ℕ) × (text ≡ word ++ rest)
 starts_front [] text e = (text, refl)
 starts_front (x ∷ word) [] e = cc
 starts_front (x ∷ word) (c ∷ text) e =
@@ -18,7 +18,7 @@ starts_front (x ∷ word) (c ∷ text) e =
     let rest = starts_front word text tests.1 in
     (rest.0, ap (λ v. v ∷ text) (sym (eqb-true x c tests.0)) ∙ ap (λ v. x ∷ v) rest.1)
 
-front_starts : (word rest : List ℕ) → starts_with nat_eq (word ++ rest) word ≡ true
+pub front_starts : (word rest : List ℕ) → starts_with nat_eq (word ++ rest) word ≡ true
 front_starts [] rest = refl
 front_starts (x ∷ word) rest = ap (λ b. b && starts_with nat_eq (word ++ rest) word) (eq-eqb x x refl) ∙ front_starts word rest
 
@@ -104,12 +104,3 @@ marker_quiet label line spelled e starts colon =
     ∙ ap (λ b. b && (starts_with nat_eq (drop (length label) (skip_blanks line)) (codes ":") && is_quiet (skip_blanks (drop 1 (drop (length label) (skip_blanks line)))))) starts'
     ∙ ap (λ b. b && is_quiet (skip_blanks (drop 1 (drop (length label) (skip_blanks line))))) colon'
     ∙ ap (λ t. is_quiet (skip_blanks (drop 1 (drop (length label) t)))) (sym e)
-
--- `is_marker` of a text whose parts are slices
-pub colon_test : (label spelled behind : List ℕ) (test : Bool) → behind ≡ drop (length label) spelled → test ≡ starts_with nat_eq behind (codes ":") → starts_with nat_eq (drop (length label) spelled) (codes ":") ≡ test
-colon_test label spelled behind test e f = ap (λ t. starts_with nat_eq t (codes ":")) (sym e) ∙ sym f
-
--- a blank at the front is skipped
-pub skip_blanks_more : (c : ℕ) (text : List ℕ) → is_blank c ≡ true → skip_blanks (c ∷ text) ≡ skip_blanks text
-unfolding skip_blanks
-skip_blanks_more c text e = ap (λ b. cond b (skip_blanks text) (c ∷ text)) e

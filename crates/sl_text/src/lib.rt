@@ -1,15 +1,20 @@
-//! The lines of a text and its cut at two marker lines. Nothing here takes memory.
+//! The lines of a text, its cut at two marker lines and the tokens of a line. Nothing here takes
+//! memory.
 #![tactic(auto)]
 
 pub mod cut;
 pub mod line;
 mod marker;
+pub mod scan;
 pub mod text;
+pub mod token;
 
 pub use cut::{Cut, cut_region};
 pub use line::{Line, Lines};
-pub use sl_model::text::CutRefusal;
+pub use scan::tokens;
+pub use sl_model::text::{Comments, CutRefusal, TokenKind};
 pub use text::{NotText, holds, lines, split_line, text_of, without_end};
+pub use token::{Token, Tokens};
 
 #[cfg(test)]
 mod tests;

@@ -1,6 +1,10 @@
 //! Hostile lines, markers and bytes, with answers written by hand.
 
-use crate::{CutRefusal, NotText, cut_region, holds, lines, text_of};
+use crate::TokenKind::{Comment, Mark, Number, Word};
+use crate::{
+    Comments, CutRefusal, Line, NotText, Token, TokenKind, cut_region, holds, lines, text_of,
+    tokens,
+};
 
 #[test]
 fn lines_end_at_line_feeds(rt: HostRuntime) {
@@ -81,5 +85,141 @@ fn a_word_is_found_anywhere(rt: HostRuntime) {
         ("", "", true),
     ] {
         assert_eq!(rt; holds(text, word), want, "{word:?} in {text:?}");
+    }
+}
+
+fn token(kind: TokenKind, text: &'static str, start: u32) -> Option<Token<'static>> {
+    Some(Token { kind, text, start })
+}
+
+#[test]
+fn a_line_has_tokens(rt: HostRuntime) {
+    let slash = Comments::Slash;
+    let at = Comments::SlashAt;
+    // a line, whether a comment is open before it and behind it, and its tokens
+    let cases = [
+        ("", slash, true, true, [None; 4]),
+        (" \t ", slash, false, false, [None; 4]),
+        (
+            "b.ne 1f",
+            slash,
+            false,
+            false,
+            [
+                token(Word, "b", 0),
+                token(Mark, ".", 1),
+                token(Word, "ne", 2),
+                token(Number, "1f", 5),
+            ],
+        ),
+        (
+            "v0.8h",
+            at,
+            false,
+            false,
+            [
+                token(Word, "v0", 0),
+                token(Mark, ".", 2),
+                token(Number, "8h", 3),
+                None,
+            ],
+        ),
+        (
+            " x*/ y",
+            slash,
+            true,
+            false,
+            [token(Comment, " x*/", 0), token(Word, "y", 5), None, None],
+        ),
+        (
+            " no end ",
+            at,
+            true,
+            true,
+            [token(Comment, " no end ", 0), None, None, None],
+        ),
+        (
+            "// /* x",
+            slash,
+            false,
+            false,
+            [token(Comment, "// /* x", 0), None, None, None],
+        ),
+        (
+            "/*/ a",
+            slash,
+            false,
+            true,
+            [token(Comment, "/*/ a", 0), None, None, None],
+        ),
+        (
+            "/**/ @b",
+            slash,
+            false,
+            false,
+            [
+                token(Comment, "/**/", 0),
+                token(Mark, "@", 5),
+                token(Word, "b", 6),
+                None,
+            ],
+        ),
+        (
+            "/**/ @b",
+            at,
+            false,
+            false,
+            [
+                token(Comment, "/**/", 0),
+                token(Comment, "@b", 5),
+                None,
+                None,
+            ],
+        ),
+        (
+            "\u{e9}_1\t\r",
+            slash,
+            false,
+            false,
+            [
+                token(Mark, "\u{e9}", 0),
+                token(Word, "_1", 2),
+                token(Mark, "\r", 5),
+                None,
+            ],
+        ),
+        (
+            "a/* // */0x1F_2",
+            slash,
+            false,
+            false,
+            [
+                token(Word, "a", 0),
+                token(Comment, "/* // */", 1),
+                token(Number, "0x1F", 9),
+                token(Word, "_2", 13),
+            ],
+        ),
+        (
+            "/* a */ /* b",
+            at,
+            false,
+            true,
+            [
+                token(Comment, "/* a */", 0),
+                token(Comment, "/* b", 8),
+                None,
+                None,
+            ],
+        ),
+    ];
+    for (text, comments, inside, behind, wanted) in cases {
+        let mut left = tokens(Line { number: 1, text }, comments, inside);
+        assert_eq!(rt; left.still_inside(), inside, "before {text:?}");
+        for want in wanted {
+            assert_eq!(rt; left.next(), want, "in {text:?}");
+        }
+        assert_eq!(rt; left.next(), None, "at the end of {text:?}");
+        assert_eq!(rt; left.still_inside(), behind, "behind {text:?}");
     }
 }

@@ -49,6 +49,7 @@ pub fn lines<'a>(text: &'a str, first: u32) -> Lines<'a>
     requires few { length text.now < 2 ^ 31 }
     requires low { first < 2 ^ 31 }
     ensures all { lines_left result ≡ spec.numbered_lines first text.now }
+    ensures count { length (lines_left result) ≤ length text.now }
     ensures short { All (λ line. length line.1 ≤ length text.now) (lines_left result) }
 {
     Lines {

@@ -1,4 +1,4 @@
-use Rattle.std.proofs.Common.{◌≡◌, ◌+◌, ◌-◌, ◌≤◌, ◌<◌, ◌++◌, true, false, length, drop, sym, ap, rules, ◌∙◌, arith, length-append}
+use Rattle.std.proofs.Common.{◌≡◌, ◌+◌, ◌-◌, ◌≤◌, true, false, length, drop, sym, ap, rules, ◌∙◌, arith, length-append}
 use Rattle.sl_model.specs.Text.{whole_lines, without_end, is_marker}
 use Rattle.sl_text.proofs.CutLemmas.{marker_here, marker_past, marker_none, lines_below}
 use Rattle.sl_text.proofs.marker.next_marker.Goals as goal

@@ -1,4 +1,4 @@
-use Rattle.std.proofs.Common.{◌≡◌, ◌+◌, length, drop, sym, ap, ◌∙◌, subst, arith, IsCharBoundary}
+use Rattle.std.proofs.Common.{◌≡◌, ◌+◌, sym, ap, ◌∙◌, subst, arith, IsCharBoundary}
 use Rattle.sl_text.specs.Lines.{line_length}
 use Rattle.sl_text.proofs.LineLemmas.{line_length_here, line_length_later, line_length_boundary}
 use Rattle.sl_text.proofs.text.line_length.Goals as goal

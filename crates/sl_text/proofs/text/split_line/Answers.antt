@@ -1,4 +1,4 @@
-use Rattle.std.proofs.Common.{◌≡◌, ◌<◌, ◌≤◌, take, drop, length, sym, ap, ◌∙◌, rules, arith, length-take-le, take-append-drop}
+use Rattle.std.proofs.Common.{◌≡◌, ◌<◌, ◌≤◌, take, length, sym, rules, arith, length-take-le, take-append-drop}
 use Rattle.sl_text.specs.Lines.{line_length}
 use Rattle.sl_text.proofs.LineLemmas.{whole_lines_some, line_length_long}
 use Rattle.sl_text.proofs.text.split_line.Goals as goal

@@ -1,6 +1,6 @@
 use Rattle.std.proofs.Common.{◌≡◌, ◌+◌, ◌∷◌, length, sym, ap, ◌∙◌, rules}
 use Rattle.sl_model.specs.Text.{numbered_lines}
-use Rattle.sl_text.specs.Lines.{lines_left, line_value}
+use Rattle.sl_text.specs.Lines.{lines_left}
 use Rattle.sl_text.proofs.LineLemmas.{numbered_lines-nil, numbered_lines_first}
 use Rattle.sl_text.proofs.line.LinesIterator.next.Goals as goal
 
