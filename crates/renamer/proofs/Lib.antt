@@ -1,1 +1,2 @@
 pub mod OrderState
+pub mod OrderAddress
