@@ -1,2 +1,3 @@
 pub mod OrderState
 pub mod OrderAddress
+pub mod OrderLists
