@@ -1,3 +1,4 @@
 pub mod OrderState
 pub mod OrderAddress
 pub mod OrderLists
+pub mod OrderFold
