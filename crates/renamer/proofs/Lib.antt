@@ -2,3 +2,4 @@ pub mod OrderState
 pub mod OrderAddress
 pub mod OrderLists
 pub mod OrderFold
+pub mod OrderFlow

@@ -28,7 +28,8 @@ stands-cases p q order h = ⊎_elim
     (λ (rest : stands_in q order ≡ true). inr rest)
     (or_cases (eqb p q) (stands_in q order) h)
 
-stands-none : (q : ℕ) → stands_in q [] ≡ true → ⊥
+-- nothing stands in an empty order
+pub stands-none : (q : ℕ) → stands_in q [] ≡ true → ⊥
 unfolding stands_in
 stands-none q h = true≢false (sym h)
 
