@@ -3,3 +3,4 @@ pub mod OrderAddress
 pub mod OrderLists
 pub mod OrderFold
 pub mod OrderFlow
+pub mod OrderShare
