@@ -4,3 +4,4 @@ pub mod OrderLists
 pub mod OrderFold
 pub mod OrderFlow
 pub mod OrderShare
+pub mod OrderStep

@@ -50,7 +50,7 @@ module _ (leaves : ℕ → Option ℕ) where
       folded-same test other (cond (test p) (unwrap_or (leaves p) old) old) xs (λ q h. same q (stands_behind p q xs h)) ∙ ap (λ v. folded leaves other v xs) here
 
   -- where no item that passes leaves a value
-  folded-none : (test : ℕ → Bool) (old : ℕ) (xs : List ℕ) → ((q : ℕ) → stands_in q xs ≡ true → test q ≡ true → leaves q ≡ None) → folded leaves test old xs ≡ old
+  pub folded-none : (test : ℕ → Bool) (old : ℕ) (xs : List ℕ) → ((q : ℕ) → stands_in q xs ≡ true → test q ≡ true → leaves q ≡ None) → folded leaves test old xs ≡ old
   unfolding folded
   folded-none test old [] none = refl
   folded-none test old (p ∷ xs) none =

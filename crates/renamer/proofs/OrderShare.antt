@@ -45,7 +45,7 @@ same_base-values value xs ys base other (Some x) None ex ey same = absurd (true�
 same_base-values value xs ys base other None b ex ey same = absurd (true≢false (sym same))
 
 -- a store has an access
-store-parts : (info : FormInfo) → is_store info ≡ true → (has_access info ≡ true) × (info.store ≡ true)
+pub store-parts : (info : FormInfo) → is_store info ≡ true → (has_access info ≡ true) × (info.store ≡ true)
 store-parts info stores = ⊎_elim
     (λ (accesses : has_access info ≡ true). (accesses, sym (cond-true (has_access info) info.store false accesses) ∙ stores))
     (λ (quiet : has_access info ≡ false). absurd (true≢false (sym stores ∙ cond-false (has_access info) info.store false quiet)))
