@@ -5,3 +5,5 @@ pub mod OrderFold
 pub mod OrderFlow
 pub mod OrderShare
 pub mod OrderStep
+pub mod OrderRun
+pub mod OrderKept

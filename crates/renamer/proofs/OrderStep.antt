@@ -109,15 +109,16 @@ pub record Reached (isa : Isa) (body : Body) (s : State) (done : List Choice) (t
   pub bytes : (at : ℕ) → byte t.memory at ≡ folded (left_at isa body s at) (is_placed done) (byte s.memory at) body.order
   pub closed : (p q : ℕ) → stands_in q body.order ≡ true → is_placed done q ≡ true → stands_in p (above q body.order) ≡ true → conflict isa body p q ≡ true → is_placed done p ≡ true
 
-placed-here : (c : Choice) (done : List Choice) → is_placed (c ∷ done) c.item ≡ true
+-- A choice is placed, as is what was placed before it, and nothing else.
+pub placed-here : (c : Choice) (done : List Choice) → is_placed (c ∷ done) c.item ≡ true
 unfolding is_placed
 placed-here c done = or_left (eqb c.item c.item) (is_placed done c.item) (eq-eqb c.item c.item refl)
 
-placed-before : (c : Choice) (done : List Choice) (q : ℕ) → is_placed done q ≡ true → is_placed (c ∷ done) q ≡ true
+pub placed-before : (c : Choice) (done : List Choice) (q : ℕ) → is_placed done q ≡ true → is_placed (c ∷ done) q ≡ true
 unfolding is_placed
 placed-before c done q h = or_right (eqb c.item q) (is_placed done q) h
 
-placed-others : (c : Choice) (done : List Choice) (q : ℕ) → eqb c.item q ≡ false → is_placed (c ∷ done) q ≡ is_placed done q
+pub placed-others : (c : Choice) (done : List Choice) (q : ℕ) → eqb c.item q ≡ false → is_placed (c ∷ done) q ≡ is_placed done q
 unfolding is_placed
 placed-others c done q other = ap (λ t. t || is_placed done q) other
 
