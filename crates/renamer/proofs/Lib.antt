@@ -1,0 +1,9 @@
+pub mod OrderState
+pub mod OrderAddress
+pub mod OrderLists
+pub mod OrderFold
+pub mod OrderFlow
+pub mod OrderShare
+pub mod OrderStep
+pub mod OrderRun
+pub mod OrderKept
