@@ -1,0 +1,116 @@
+-- The flow of a list's own body is its run.
+use Rattle.std.proofs.Common.{◌≡◌, ◌≢◌, ℕ, zero, suc, ◌+◌, ◌<◌, ◌≤◌, ◌%◌, Bool, true, false, cond, ◌&&◌, ◌||◌, not, eqb, List, [], ◌∷◌, ◌++◌, append-nil, append_assoc, map, reverse, length, take, take_all, take-suc, Option, None, Some, ◌⊎◌, inl, inr, ⊎_elim, if◌then◌else◌, refl, sym, ap, subst, ◌∙◌, true≢false, arith, is_some, slice_get, slice_index, slice_index_or, nat_cmp}
+use Rattle.std.specs.FinMap.{FinMap}
+use Rattle.std.specs.List.{list_all, list_any, zip}
+use Rattle.std.proofs.lemmas.List.{reverse-append, map-map, length-map, length-reverse}
+use Rattle.std.proofs.lemmas.Bool.{ne_eqb}
+use Rattle.sl_model.specs.declared.register.Bank.TheVariants.{General}
+use Rattle.sl_model.specs.declared.register.Reg.{Reg}
+use Rattle.sl_model.specs.declared.register.RegSet.{RegSet}
+use Rattle.sl_model.specs.declared.instruction.Instr.{Instr}
+use Rattle.sl_model.specs.declared.instruction.FormInfo.{FormInfo}
+use Rattle.sl_model.specs.declared.schedule.Source.{Source}
+use Rattle.sl_model.specs.declared.schedule.Source.TheVariants.{Entry, Item}
+use Rattle.sl_model.specs.Register.{same_reg}
+use Rattle.sl_model.specs.RegSets.{set_has, set_count}
+use Rattle.sl_model.specs.State.{State, read, write_all, is_zero, load}
+use Rattle.sl_model.specs.Source.{operands, outputs, item_at, list_sources, last_source, source_of, place_from, output_or}
+use Rattle.sl_model.specs.Isa.{Isa, op_of}
+use Rattle.sl_model.specs.Exec.{Touch, exec, run, touches, touches_of, operand_values, values_of, memory_after, loaded_by, is_load, address_of}
+use Rattle.sl_model.specs.Body.{Body, Flow, flow_item, flow_from, flow_of, source_value, sources_values, output_value, all_differ}
+use Rattle.sl_model.specs.Lawful.{IsLawful, IsValid, suits_set, zero_register, load_size}
+use Rattle.sl_model.specs.Legal.{numbers_below}
+use Rattle.renamer.specs.Faithful.{own_body, FlowIsRun}
+use Rattle.renamer.proofs.OwnTests.{list_all-at, list_any-at, list_any-from_each, zip-at, element_at, tells, same_reg-equal}
+use Rattle.renamer.proofs.OwnStates.{value_or, read-memory, read-write_all, write_all-memory, length-load}
+
+-- as many sets as have a register are at most all
+pub set_count-bound : (sets : List RegSet) → set_count sets ≤ length sets
+unfolding set_count
+set_count-bound [] = omega arith
+set_count-bound (set ∷ sets) = bound (eqb set.bits 0) (set_count sets) (length sets) (set_count-bound sets)
+  where
+    bound : (b : Bool) (m n : ℕ) → m ≤ n → (if b then 0 else 1) + m ≤ suc n
+    bound true m n le = omega arith
+    bound false m n le = omega arith
+
+-- the zero register is the one that the test finds
+is_zero-register : (r : Reg) → is_zero r ≡ true → (r ≡ zero_register) × (r.symbolic ≡ false)
+is_zero-register r zero = ?
+
+-- no instruction of a lawful set writes the zero register
+pub plain_outputs : (isa : Isa) (i : Instr) → IsLawful isa → IsValid isa i → list_any is_zero (outputs i) ≡ false
+plain_outputs isa i lawful valid = ?
+
+-- an instruction gives a value for each output
+pub values_count : (isa : Isa) (i : Instr) (ins : List ℕ) (memory : FinMap nat_cmp ℕ) → IsLawful isa → IsValid isa i → length ins ≡ length (operands i) → length (values_of isa i ins memory) ≡ length (outputs i)
+unfolding values_of loaded_by
+values_count isa i ins memory lawful valid given = lawful.value_count i ins (loaded_by isa i ins memory) valid given ?
+
+-- what a register reads after an instruction
+pub read-exec : (isa : Isa) (i : Instr) (s : State) (r : Reg) → IsLawful isa → IsValid isa i → read (exec isa i s) r ≡ value_or (place_from 0 r (outputs i)) (values_of isa i (operand_values i s) s.memory) (read s r)
+unfolding exec
+read-exec isa i s r lawful valid =
+    let given : length (operand_values i s) ≡ length (operands i) = length-map (operands i) (read s) in
+    let values : List ℕ = values_of isa i (operand_values i s) s.memory in
+    let memory : FinMap nat_cmp ℕ = memory_after isa i (operand_values i s) s.memory in
+    read-write_all r (outputs i) values (record { regs = s.regs; memory = memory }) valid.distinct (plain_outputs isa i lawful valid) (values_count isa i (operand_values i s) s.memory lawful valid given)
+    ∙ ap (λ v. value_or (place_from 0 r (outputs i)) values v) (read-memory s memory r)
+
+-- the memory after an instruction
+pub exec-memory : (isa : Isa) (i : Instr) (s : State) → (exec isa i s).memory ≡ memory_after isa i (operand_values i s) s.memory
+unfolding exec
+exec-memory isa i s = write_all-memory (outputs i) (values_of isa i (operand_values i s) s.memory) (record { regs = s.regs; memory = memory_after isa i (operand_values i s) s.memory })
+
+-- a run of a list and one more instruction
+run-push : (isa : Isa) (items : List Instr) (i : Instr) (s : State) → run isa (items ++ i ∷ []) s ≡ exec isa i (run isa items s)
+unfolding run
+run-push isa [] i s = refl
+run-push isa (j ∷ items) i s = run-push isa items i (exec isa j s)
+
+touches-push : (isa : Isa) (items : List Instr) (i : Instr) (s : State) → touches isa (items ++ i ∷ []) s ≡ touches isa items s ++ touches_of isa i (operand_values i (run isa items s))
+unfolding run touches
+touches-push isa [] i s = append-nil (touches_of isa i (operand_values i s))
+touches-push isa (j ∷ items) i s =
+    ap (λ t. touches_of isa j (operand_values j s) ++ t) (touches-push isa items i (exec isa j s))
+    ∙ sym (append_assoc (touches_of isa j (operand_values j s)) (touches isa items (exec isa j s)) (touches_of isa i (operand_values i (run isa items (exec isa j s)))))
+
+-- a flow of an order and one more item
+pub flow_from-push : (isa : Isa) (body : Body) (s : State) (flow : Flow) (order : List ℕ) (p : ℕ) → flow_from isa body s flow (order ++ p ∷ []) ≡ flow_item isa body s (flow_from isa body s flow order) p
+unfolding flow_from
+flow_from-push isa body s flow [] p = refl
+flow_from-push isa body s flow (q ∷ order) p = flow_from-push isa body s (flow_item isa body s flow q) order p
+
+-- A source is an entry, or an output of an item below a number.
+abbrev pub IsBefore : ℕ → Source → Type 0
+IsBefore n (Entry r) = Unit {0}
+IsBefore n (Item item place) = item < n
+
+IsBefore-output_or : (n : ℕ) (o : Option ℕ) (earlier : Source) → IsBefore n earlier → IsBefore (suc n) (output_or n o earlier)
+IsBefore-output_or n None (Entry r) before = tt
+IsBefore-output_or n None (Item item place) before = omega arith
+IsBefore-output_or n (Some place) earlier before = omega arith
+
+-- what stands above has numbers below the count of it
+pub IsBefore-source_of : (r : Reg) (above : List Instr) → IsBefore (length above) (source_of r above)
+unfolding source_of
+IsBefore-source_of r [] = tt
+IsBefore-source_of r (i ∷ above) = IsBefore-output_or (length above) (place_from 0 r (outputs i)) (source_of r above) (IsBefore-source_of r above)
+
+-- the value of an earlier source stays, and that of an output is the one at its place
+source_value-push : (s : State) (n : ℕ) (values : List ℕ) (all : List (ℕ × List ℕ)) (o : Option ℕ) (earlier : Source) → IsBefore n earlier → source_value s ((n, values) ∷ all) (output_or n o earlier) ≡ value_or o values (source_value s all earlier)
+unfolding output_value
+source_value-push s n values all None (Entry r) before = refl
+source_value-push s n values all None (Item item place) before =
+    let other : n ≢ item = omega arith in
+    ap (λ b. if b then slice_index values place else output_value item place all) (ne_eqb n item other)
+source_value-push s n values all (Some place) earlier before = ap (λ b. if b then slice_index values place else output_value n place all) (eq-eqb n n refl)
+
+-- how far the flow of a list's own body has come after so many items: it is the run of those
+record Follows (isa : Isa) (items : List Instr) (s : State) (n : ℕ) (flow : Flow) : Type 0 where
+  registers : (r : Reg) → read (run isa (take n items) s) r ≡ source_value s flow.values (source_of r (reverse (take n items)))
+  memory : (run isa (take n items) s).memory ≡ flow.memory
+  accesses : touches isa (take n items) s ≡ flow.touches
+
+empty_flow : State → Flow
+empty_flow s = record { values = []; memory = s.memory; touches = [] }

@@ -1,0 +1,215 @@
+-- Tests that hold, lists of tests by place, and registers and sources that are equal.
+use Rattle.std.proofs.Common.{◌≡◌, ◌≢◌, ℕ, zero, suc, ◌+◌, ◌<◌, ◌≤◌, Bool, true, false, ◌&&◌, ◌||◌, not, eqb, List, [], ◌∷◌, length, Option, None, Some, ◌⊎◌, inl, inr, ⊎_elim, if◌then◌else◌, refl, sym, ap, subst, ◌∙◌, true≢false, arith, is_some, slice_get, zip}
+use Rattle.std.specs.List.{list_all, list_any, enumerate_from}
+use Rattle.std.proofs.lemmas.Bool.{eqb-true, eq-eqb}
+use Rattle.sl_model.specs.declared.register.Bank.{Bank}
+use Rattle.sl_model.specs.declared.register.Bank.TheVariants.{General, Vector, Flags, Stack}
+use Rattle.sl_model.specs.declared.register.Reg.{Reg}
+use Rattle.sl_model.specs.declared.schedule.Source.{Source}
+use Rattle.sl_model.specs.declared.schedule.Source.TheVariants.{Entry, Item}
+use Rattle.sl_model.specs.Register.{bank_number, same_bool, same_reg}
+use Rattle.sl_model.specs.Body.{same_source, all_differ}
+use Rattle.sl_model.specs.Source.{place_from}
+
+-- the parts of a test that joins two
+pub and_left : (a b : Bool) → (a && b) ≡ true → a ≡ true
+and_left true b e = refl
+and_left false b e = e
+
+pub and_right : (a b : Bool) → (a && b) ≡ true → b ≡ true
+and_right true b e = e
+and_right false b e = absurd (true≢false (sym e))
+
+pub both : (a b : Bool) → a ≡ true → b ≡ true → (a && b) ≡ true
+both true b e f = f
+both false b e f = e
+
+pub or_left : (a b : Bool) → (a || b) ≡ false → a ≡ false
+or_left true b e = e
+or_left false b e = refl
+
+pub or_right : (a b : Bool) → (a || b) ≡ false → b ≡ false
+or_right true b e = absurd (true≢false e)
+or_right false b e = e
+
+pub either : (a b : Bool) → (a || b) ≡ true → (a ≡ true) ⊎ (b ≡ true)
+either true b e = inl refl
+either false b e = inr e
+
+-- a test that isn't true is false
+pub not_true : (a : Bool) → not a ≡ true → a ≡ false
+not_true true e = sym e
+not_true false e = refl
+
+pub not_false : (a : Bool) → not a ≡ false → a ≡ true
+not_false true e = refl
+not_false false e = sym e
+
+-- where one of two tests must hold and the first, denied, holds, the second does
+pub implied : (a b : Bool) → (not a || b) ≡ true → a ≡ true → b ≡ true
+implied true b e f = e
+implied false b e f = absurd (true≢false (sym f))
+
+-- a test is true or false
+pub tells : (b : Bool) → (b ≡ true) ⊎ (b ≡ false)
+tells true = inl refl
+tells false = inr refl
+
+module _ {A : Type 0} where
+  -- a test of a whole list is one of each of its places
+  pub list_all-at : (p : A → Bool) (xs : List A) (k : ℕ) (x : A) → list_all p xs ≡ true → slice_get xs k ≡ Some x → p x ≡ true
+  list_all-at p [] k x all at = absurd (cc)
+  list_all-at p (y ∷ xs) zero x all at = let e : y ≡ x = cc in ap p (sym e) ∙ and_left (p y) (list_all p xs) all
+  list_all-at p (y ∷ xs) (suc k) x all at = list_all-at p xs k x (and_right (p y) (list_all p xs) all) at
+
+  pub list_all-from_each : (p : A → Bool) (xs : List A) → ((k : ℕ) (x : A) → slice_get xs k ≡ Some x → p x ≡ true) → list_all p xs ≡ true
+  list_all-from_each p [] each = refl
+  list_all-from_each p (y ∷ xs) each = both (p y) (list_all p xs) (each 0 y refl) (list_all-from_each p xs (λ k x at. each (suc k) x at))
+
+  pub list_any-at : (p : A → Bool) (xs : List A) (k : ℕ) (x : A) → list_any p xs ≡ false → slice_get xs k ≡ Some x → p x ≡ false
+  list_any-at p [] k x none at = absurd (cc)
+  list_any-at p (y ∷ xs) zero x none at = let e : y ≡ x = cc in ap p (sym e) ∙ or_left (p y) (list_any p xs) none
+  list_any-at p (y ∷ xs) (suc k) x none at = list_any-at p xs k x (or_right (p y) (list_any p xs) none) at
+
+  pub list_any-from_each : (p : A → Bool) (xs : List A) → ((k : ℕ) (x : A) → slice_get xs k ≡ Some x → p x ≡ false) → list_any p xs ≡ false
+  list_any-from_each p [] each = refl
+  list_any-from_each p (y ∷ xs) each = ap (λ b. b || list_any p xs) (each 0 y refl) ∙ list_any-from_each p xs (λ k x at. each (suc k) x at)
+
+  -- there is an element at each place within a list
+  pub element_at : (xs : List A) (k : ℕ) → k < length xs → (x : A) × (slice_get xs k ≡ Some x)
+  element_at [] k lt = absurd (omega arith)
+  element_at (y ∷ xs) zero lt = (y, refl)
+  element_at (y ∷ xs) (suc k) lt = element_at xs k (omega arith)
+
+  pub enumerate_from-at : (n : ℕ) (xs : List A) (k : ℕ) (x : A) → slice_get xs k ≡ Some x → slice_get (enumerate_from n xs) k ≡ Some (n + k, x)
+  enumerate_from-at n [] k x at = absurd (cc)
+  enumerate_from-at n (y ∷ xs) zero x at = let e : y ≡ x = cc in let f : n ≡ n + 0 = omega arith in cc
+  enumerate_from-at n (y ∷ xs) (suc k) x at = enumerate_from-at (n + 1) xs k x at ∙ ap (λ m. Some (m, x)) (let f : n + 1 + k ≡ n + suc k = omega arith in f)
+
+module _ {A B : Type 0} where
+  pub zip-at : (xs : List A) (ys : List B) (k : ℕ) (x : A) (y : B) → slice_get xs k ≡ Some x → slice_get ys k ≡ Some y → slice_get (zip xs ys) k ≡ Some (x, y)
+  zip-at [] ys k x y at beside = absurd (cc)
+  zip-at (a ∷ xs) [] k x y at beside = absurd (cc)
+  zip-at (a ∷ xs) (b ∷ ys) zero x y at beside = let e : a ≡ x = cc in let f : b ≡ y = cc in cc
+  zip-at (a ∷ xs) (b ∷ ys) (suc k) x y at beside = zip-at xs ys k x y at beside
+
+-- registers and sources
+
+-- banks of one number are one
+same_bank : (a b : Bank) → eqb (bank_number a) (bank_number b) ≡ true → a ≡ b
+same_bank General General e = refl
+same_bank General Vector e = absurd (true≢false (sym e))
+same_bank General Flags e = absurd (true≢false (sym e))
+same_bank General Stack e = absurd (true≢false (sym e))
+same_bank Vector General e = absurd (true≢false (sym e))
+same_bank Vector Vector e = refl
+same_bank Vector Flags e = absurd (true≢false (sym e))
+same_bank Vector Stack e = absurd (true≢false (sym e))
+same_bank Flags General e = absurd (true≢false (sym e))
+same_bank Flags Vector e = absurd (true≢false (sym e))
+same_bank Flags Flags e = refl
+same_bank Flags Stack e = absurd (true≢false (sym e))
+same_bank Stack General e = absurd (true≢false (sym e))
+same_bank Stack Vector e = absurd (true≢false (sym e))
+same_bank Stack Flags e = absurd (true≢false (sym e))
+same_bank Stack Stack e = refl
+
+pub same_bool-equal : (a b : Bool) → same_bool a b ≡ true → a ≡ b
+same_bool-equal true true e = refl
+same_bool-equal true false e = sym e
+same_bool-equal false true e = e
+same_bool-equal false false e = refl
+
+same_bool-refl : (a : Bool) → same_bool a a ≡ true
+same_bool-refl true = refl
+same_bool-refl false = refl
+
+-- registers that the test takes for one are equal
+pub same_reg-equal : (a b : Reg) → same_reg a b ≡ true → a ≡ b
+unfolding same_reg
+same_reg-equal a b e =
+    let bank : a.bank ≡ b.bank = same_bank a.bank b.bank (and_left (eqb (bank_number a.bank) (bank_number b.bank)) (same_bool a.symbolic b.symbolic && eqb a.number b.number) e) in
+    let rest : (same_bool a.symbolic b.symbolic && eqb a.number b.number) ≡ true = and_right (eqb (bank_number a.bank) (bank_number b.bank)) (same_bool a.symbolic b.symbolic && eqb a.number b.number) e in
+    let symbolic : a.symbolic ≡ b.symbolic = same_bool-equal a.symbolic b.symbolic (and_left (same_bool a.symbolic b.symbolic) (eqb a.number b.number) rest) in
+    let number : a.number ≡ b.number = eqb-true a.number b.number (and_right (same_bool a.symbolic b.symbolic) (eqb a.number b.number) rest) in
+    λ i. record { bank = bank i; symbolic = symbolic i; number = number i }
+
+pub same_reg-refl : (a : Reg) → same_reg a a ≡ true
+unfolding same_reg
+same_reg-refl a = both (eqb (bank_number a.bank) (bank_number a.bank)) (same_bool a.symbolic a.symbolic && eqb a.number a.number) (eq-eqb (bank_number a.bank) (bank_number a.bank) refl)
+    (both (same_bool a.symbolic a.symbolic) (eqb a.number a.number) (same_bool-refl a.symbolic) (eq-eqb a.number a.number refl))
+
+-- registers that the test tells apart differ
+pub same_reg-differ : (a b : Reg) → same_reg a b ≡ false → a ≢ b
+same_reg-differ a b e same = true≢false (sym (same_reg-refl a) ∙ ap (same_reg a) same ∙ e)
+
+pub same_reg-comm : (a b : Reg) → same_reg a b ≡ false → same_reg b a ≡ false
+same_reg-comm a b e = ⊎_elim (λ t. absurd (same_reg-differ a b e (sym (same_reg-equal b a t)))) (λ f. f) (tells (same_reg b a))
+
+-- sources that the test takes for one are equal
+pub same_source-equal : (a b : Source) → same_source a b ≡ true → a ≡ b
+same_source-equal (Entry a) (Entry b) e = ap (λ r. Entry r) (same_reg-equal a b e)
+same_source-equal (Entry a) (Item b k) e = absurd (true≢false (sym e))
+same_source-equal (Item a j) (Entry b) e = absurd (true≢false (sym e))
+same_source-equal (Item a j) (Item b k) e =
+    let item : a ≡ b = eqb-true a b (and_left (eqb a b) (eqb j k) e) in
+    let place : j ≡ k = eqb-true j k (and_right (eqb a b) (eqb j k) e) in
+    cc
+
+pub same_source-refl : (a : Source) → same_source a a ≡ true
+same_source-refl (Entry a) = same_reg-refl a
+same_source-refl (Item a j) = both (eqb a a) (eqb j j) (eq-eqb a a refl) (eq-eqb j j refl)
+
+-- places of registers in a list
+
+-- an option without a value is none
+pub is_none_from : {A : Type 0} (o : Option A) → is_some o ≡ false → o ≡ None
+is_none_from None e = refl
+is_none_from (Some x) e = absurd (true≢false e)
+
+-- what is found at a place stands there
+pub place_from-at : (j : ℕ) (r : Reg) (regs : List Reg) (k : ℕ) → place_from j r regs ≡ Some k → (i : ℕ) × (k ≡ j + i) × (slice_get regs i ≡ Some r)
+unfolding place_from
+place_from-at j r [] k e = absurd (cc)
+place_from-at j r (q ∷ regs) k e =
+    elim (same_reg q r) as (λ b. same_reg q r ≡ b → (if b then Some j else place_from (j + 1) r regs) ≡ Some k → (i : ℕ) × (k ≡ j + i) × (slice_get (q ∷ regs) i ≡ Some r)) [
+      | true ↦ λ is found. let at : j ≡ k = cc in (0, omega arith, ap (λ x. Some x) (same_reg-equal q r is))
+      | false ↦ λ is found. let rest = place_from-at (j + 1) r regs k found in (suc rest.0, omega (arith, rest.1), rest.2)
+    ] refl e
+
+-- a register that isn't found stands nowhere
+pub place_from-none : (j : ℕ) (r : Reg) (regs : List Reg) (k : ℕ) (q : Reg) → place_from j r regs ≡ None → slice_get regs k ≡ Some q → same_reg q r ≡ false
+unfolding place_from
+place_from-none j r [] k q e at = absurd (cc)
+place_from-none j r (p ∷ regs) k q e at =
+    elim (same_reg p r) as (λ b. same_reg p r ≡ b → (if b then Some j else place_from (j + 1) r regs) ≡ None → same_reg q r ≡ false) [
+      | true ↦ λ is found. absurd (cc)
+      | false ↦ λ is found. elim k as (λ k. slice_get (p ∷ regs) k ≡ Some q → same_reg q r ≡ false) [
+          | zero ↦ λ here. let same : p ≡ q = cc in ap (λ x. same_reg x r) (sym same) ∙ is
+          | suc k ↦ λ here. place_from-none (j + 1) r regs k q found here
+        ] at
+    ] refl e
+
+-- in a list of different registers each is found at its place
+pub place_from-differ : (j : ℕ) (r : Reg) (regs : List Reg) (k : ℕ) → all_differ regs ≡ true → slice_get regs k ≡ Some r → place_from j r regs ≡ Some (j + k)
+unfolding place_from all_differ
+place_from-differ j r [] k differ at = absurd (cc)
+place_from-differ j r (q ∷ regs) zero differ at =
+    let e : q ≡ r = cc in
+    let test : same_reg q r ≡ true = ap (λ x. same_reg x r) e ∙ same_reg-refl r in
+    let n : j ≡ j + 0 = omega arith in
+    ap (λ b. if b then Some j else place_from (j + 1) r regs) test ∙ ap (λ m. Some m) n
+place_from-differ j r (q ∷ regs) (suc k) differ at =
+    let none : place_from 0 q regs ≡ None = is_none_from (place_from 0 q regs) (not_true (is_some (place_from 0 q regs)) (and_left (not (is_some (place_from 0 q regs))) (all_differ regs) differ)) in
+    let test : same_reg q r ≡ false = same_reg-comm r q (place_from-none 0 q regs k r none at) in
+    let n : j + 1 + k ≡ j + suc k = omega arith in
+    ap (λ b. if b then Some j else place_from (j + 1) r regs) test
+    ∙ place_from-differ (j + 1) r regs k (and_right (not (is_some (place_from 0 q regs))) (all_differ regs) differ) at
+    ∙ ap (λ m. Some m) n
+
+-- a register from which each of a list differs isn't found there
+pub place_from-misses : (j : ℕ) (r : Reg) (regs : List Reg) → ((k : ℕ) (q : Reg) → slice_get regs k ≡ Some q → same_reg q r ≡ false) → place_from j r regs ≡ None
+unfolding place_from
+place_from-misses j r [] misses = refl
+place_from-misses j r (q ∷ regs) misses =
+    ap (λ b. if b then Some j else place_from (j + 1) r regs) (misses 0 q refl) ∙ place_from-misses (j + 1) r regs (λ k q at. misses (suc k) q at)
