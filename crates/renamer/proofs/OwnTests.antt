@@ -96,7 +96,7 @@ module _ {A B : Type 0} where
 -- registers and sources
 
 -- banks of one number are one
-same_bank : (a b : Bank) → eqb (bank_number a) (bank_number b) ≡ true → a ≡ b
+pub same_bank : (a b : Bank) → eqb (bank_number a) (bank_number b) ≡ true → a ≡ b
 same_bank General General e = refl
 same_bank General Vector e = absurd (true≢false (sym e))
 same_bank General Flags e = absurd (true≢false (sym e))
