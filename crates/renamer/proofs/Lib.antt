@@ -1,3 +1,5 @@
 pub mod OwnTests
 pub mod OwnStates
 pub mod OwnFlow
+pub mod LegalityRules
+pub mod Legality

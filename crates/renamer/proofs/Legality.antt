@@ -1,0 +1,1 @@
+-- A legal list of choices is faithful.
