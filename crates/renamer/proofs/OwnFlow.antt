@@ -40,7 +40,7 @@ set_count-bound (set ∷ sets) = bound (eqb set.bits 0) (set_count sets) (length
     bound false m n le = omega arith
 
 -- the zero register is the one that the test finds
-is_zero-register : (r : Reg) → is_zero r ≡ true → r ≡ zero_register
+pub is_zero-register : (r : Reg) → is_zero r ≡ true → r ≡ zero_register
 is_zero-register r found =
     let rest : (not r.symbolic && eqb r.number 31) ≡ true = and_right (eqb (bank_number r.bank) 0) (not r.symbolic && eqb r.number 31) found in
     let bank : r.bank ≡ General = same_bank r.bank General (and_left (eqb (bank_number r.bank) 0) (not r.symbolic && eqb r.number 31) found) in

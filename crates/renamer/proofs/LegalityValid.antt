@@ -1,0 +1,1 @@
+-- Each instruction of an applied legal schedule is one of the instruction set.
