@@ -5,3 +5,5 @@ pub mod LegalityRules
 pub mod Legality
 pub mod LegalityFinals
 pub mod LegalityValid
+pub mod StraightNumbers
+pub mod StraightSets
