@@ -12,7 +12,7 @@ use Rattle.sl_model.specs.Isa.{Isa}
 use Rattle.sl_model.specs.Body.{chosen, is_placed, is_full, held, all_differ, same_source, stands_in}
 use Rattle.sl_model.specs.Legal.{Problem, IsLegalNext, IsLegalFrom, IsFullLegal, body_of, may_overwrite, is_final_in, is_still_read, suits_output, output_classes}
 use Rattle.renamer.specs.Faithful.{IsSound}
-use Rattle.renamer.specs.WellPosed.{IsWellPosed, is_made}
+use Rattle.renamer.specs.WellPosed.{is_made}
 use Rattle.renamer.proofs.OwnTests.{and_left, and_right, both, implied, either, not_true, tells, list_all-at, list_any-at, element_at, same_reg-equal, same_reg-refl, same_source-equal, same_source-refl, place_from-at, place_from-differ}
 use Rattle.renamer.proofs.LegalityRules.{KeepsRules, keeps_rules, SuitsOutput, suits_outputs}
 
@@ -108,8 +108,8 @@ stands-holds problem schedule r (Item item place) full made stands =
     stands (placed-onto schedule [] item (inl (list_all-stands (is_placed schedule) problem.order item full known)))
 
 -- After a full legal schedule each final register holds its value.
-pub finals-hold : (isa : Isa) (problem : Problem) (schedule : List Choice) (j : ℕ) (r : Reg) (value : Source) → IsWellPosed isa problem → IsFullLegal isa problem schedule → slice_get problem.finals j ≡ Some (r, value) → held (reverse schedule) r ≡ value
-finals-hold isa problem schedule j r value posed legal final =
-    let made : is_made problem (r, value) ≡ true = list_all-at (is_made problem) problem.finals j (r, value) posed.made final in
+pub finals-hold : (isa : Isa) (problem : Problem) (schedule : List Choice) → IsSound isa (body_of problem) → list_all (is_made problem) problem.finals ≡ true → IsFullLegal isa problem schedule → (j : ℕ) (r : Reg) (value : Source) → slice_get problem.finals j ≡ Some (r, value) → held (reverse schedule) r ≡ value
+finals-hold isa problem schedule sound all_made legal j r value final =
+    let made : is_made problem (r, value) ≡ true = list_all-at (is_made problem) problem.finals j (r, value) all_made final in
     stands-holds problem schedule r value legal.full made
-      (stands-all isa problem [] schedule j r value posed.sound legal.legal final made (stands-first problem r value made))
+      (stands-all isa problem [] schedule j r value sound legal.legal final made (stands-first problem r value made))

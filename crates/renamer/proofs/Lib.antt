@@ -7,3 +7,5 @@ pub mod LegalityFinals
 pub mod LegalityValid
 pub mod StraightNumbers
 pub mod StraightSets
+pub mod StraightPosed
+pub mod StraightLeaves

@@ -1,5 +1,5 @@
 -- Tests that hold, lists of tests by place, and registers and sources that are equal.
-use Rattle.std.proofs.Common.{◌≡◌, ◌≢◌, ℕ, zero, suc, ◌+◌, ◌<◌, ◌≤◌, Bool, true, false, ◌&&◌, ◌||◌, not, eqb, List, [], ◌∷◌, length, Option, None, Some, ◌⊎◌, inl, inr, ⊎_elim, if◌then◌else◌, refl, sym, ap, subst, ◌∙◌, true≢false, arith, is_some, slice_get, zip}
+use Rattle.std.proofs.Common.{◌≡◌, ◌≢◌, ℕ, zero, suc, ◌+◌, ◌<◌, ◌≤◌, Bool, true, false, ◌&&◌, ◌||◌, not, eqb, List, [], ◌∷◌, map, length, Option, None, Some, ◌⊎◌, inl, inr, ⊎_elim, if◌then◌else◌, refl, sym, ap, subst, ◌∙◌, true≢false, arith, is_some, slice_get, zip}
 use Rattle.std.specs.List.{list_all, list_any, enumerate_from}
 use Rattle.std.proofs.lemmas.Bool.{eqb-true, eq-eqb}
 use Rattle.sl_model.specs.declared.register.Bank.{Bank}
@@ -87,6 +87,10 @@ module _ {A : Type 0} where
   enumerate_from-at n (y ∷ xs) (suc k) x at = enumerate_from-at (n + 1) xs k x at ∙ ap (λ m. Some (m, x)) (let f : n + 1 + k ≡ n + suc k = omega arith in f)
 
 module _ {A B : Type 0} where
+  pub list_any-map : (p : B → Bool) (f : A → B) (xs : List A) → list_any p (map f xs) ≡ list_any (λ x. p (f x)) xs
+  list_any-map p f [] = refl
+  list_any-map p f (x ∷ xs) = ap (λ b. p (f x) || b) (list_any-map p f xs)
+
   pub zip-at : (xs : List A) (ys : List B) (k : ℕ) (x : A) (y : B) → slice_get xs k ≡ Some x → slice_get ys k ≡ Some y → slice_get (zip xs ys) k ≡ Some (x, y)
   zip-at [] ys k x y at beside = absurd (cc)
   zip-at (a ∷ xs) [] k x y at beside = absurd (cc)
