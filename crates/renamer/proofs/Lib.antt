@@ -2,7 +2,7 @@ pub mod OwnTests
 pub mod OwnStates
 pub mod OwnFlow
 pub mod LegalityRules
-pub mod Legality
+pub mod LegalityFaithful
 pub mod LegalityFinals
 pub mod LegalityValid
 pub mod StraightNumbers

@@ -26,7 +26,7 @@ use Rattle.renamer.specs.Faithful.{IsSound, Carries, FlowIsRun, own_body, Faithf
 use Rattle.renamer.proofs.OwnTests.{or_left, or_right, either, tells, list_any-at, same_reg-equal, place_from-at, place_from-misses}
 use Rattle.renamer.proofs.OwnFlow.{own_flow-run}
 use Rattle.renamer.proofs.LegalityRules.{SuitsOutput, suits_outputs}
-use Rattle.renamer.proofs.Legality.{legal-faithful}
+use Rattle.renamer.proofs.LegalityFaithful.{legal-faithful}
 use Rattle.renamer.proofs.LegalityFinals.{finals-hold}
 use Rattle.renamer.proofs.StraightNumbers.{below-lt}
 use Rattle.renamer.proofs.StraightSets.{is_one_of-any, set_of-lacks}

@@ -1,2 +1,5 @@
 //! A schedule as a list of instructions, and that it computes the same.
 #![tactic(auto)]
+
+pub mod legality;
+pub mod straight;

@@ -1,0 +1,30 @@
+//! What holds of every legal schedule of a problem: laws with no code.
+ghost use Rattle.std.specs.Prelude.{ℕ, ◌≡◌, ◌<◌, List, [], reverse, length, slice_get, Some};
+ghost use Rattle.sl_model.specs.declared.register.Reg.{Reg};
+ghost use Rattle.sl_model.specs.declared.schedule.Choice.{Choice};
+ghost use Rattle.sl_model.specs.declared.schedule.Source.{Source};
+ghost use Rattle.sl_model.specs.Source.{item_at};
+ghost use Rattle.sl_model.specs.Isa.{Isa};
+ghost use Rattle.sl_model.specs.Body.{IsFaithfulFrom, held, applied};
+ghost use Rattle.sl_model.specs.Lawful.{IsLawful, IsValid};
+ghost use Rattle.sl_model.specs.Legal.{Problem, IsLegalFrom, IsFullLegal, body_of};
+ghost use Rattle.renamer.specs.WellPosed.{IsWellPosed};
+
+/// A legal list of choices of a well-posed problem is faithful: each choice finds its sources still held, comes after
+/// what conflicts with it, and writes different registers, none of them the zero register.
+pub fn legal_is_faithful()
+    ensures { (isa : Isa) (problem : Problem) (schedule : List Choice) → IsLawful isa → IsWellPosed isa problem → IsLegalFrom isa problem [] schedule → IsFaithfulFrom isa (body_of problem) [] schedule }
+{
+}
+
+/// After a full legal schedule of a well-posed problem each final register holds its value.
+pub fn finals_are_in_place()
+    ensures { (isa : Isa) (problem : Problem) (schedule : List Choice) → IsWellPosed isa problem → IsFullLegal isa problem schedule → (k : ℕ) (r : Reg) (value : Source) → slice_get problem.finals k ≡ Some (r, value) → held (reverse schedule) r ≡ value }
+{
+}
+
+/// Each instruction of an applied legal list of choices is one of the instruction set.
+pub fn applied_is_valid()
+    ensures { (isa : Isa) (problem : Problem) (schedule : List Choice) → IsWellPosed isa problem → IsLegalFrom isa problem [] schedule → (p : ℕ) → p < length (applied (body_of problem) schedule) → IsValid isa (item_at (applied (body_of problem) schedule) p) }
+{
+}
