@@ -1,3 +1,12 @@
+pub mod OrderState
+pub mod OrderAddress
+pub mod OrderLists
+pub mod OrderFold
+pub mod OrderFlow
+pub mod OrderShare
+pub mod OrderStep
+pub mod OrderRun
+pub mod OrderKept
 pub mod OwnTests
 pub mod OwnStates
 pub mod OwnFlow

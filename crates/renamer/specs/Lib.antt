@@ -1,2 +1,3 @@
 pub mod Faithful
 pub mod WellPosed
+pub mod Written

@@ -2,4 +2,5 @@
 #![tactic(auto)]
 
 pub mod legality;
+pub mod order;
 pub mod straight;
