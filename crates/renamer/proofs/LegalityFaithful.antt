@@ -13,13 +13,14 @@ use Rattle.sl_model.specs.Body.{chosen, is_placed, is_still_held, all_differ, Is
 use Rattle.sl_model.specs.Lawful.{IsLawful, zero_register}
 use Rattle.sl_model.specs.Legal.{Problem, IsLegalNext, IsLegalFrom, sources_in, body_of, suits_output, output_classes}
 use Rattle.renamer.specs.Faithful.{IsSound}
-use Rattle.renamer.proofs.OwnTests.{and_right, not_true, tells, list_all-from_each, list_any-from_each, list_any-at}
+use Rattle.std.proofs.lemmas.Bool.{not-true, cases_Bool}
+use Rattle.renamer.proofs.OwnTests.{and_right, list_all-from_each, list_any-from_each, list_any-at}
 use Rattle.renamer.proofs.OwnFlow.{is_zero-register}
 use Rattle.renamer.proofs.LegalityRules.{KeepsRules, keeps_rules, SuitsOutput, suits_outputs, SuitsOperand, suits_operands}
 
 -- no output of a legal choice goes to the zero register
 plain_choice : (isa : Isa) (problem : Problem) (done : List Choice) (c : Choice) → IsLawful isa → IsSound isa (body_of problem) → IsLegalNext isa problem done c → list_any is_zero (chosen c) ≡ false
-plain_choice isa problem done c lawful sound legal = list_any-from_each is_zero (chosen c) (λ k r at. ⊎_elim (λ t. absurd (never k r at (is_zero-register r t))) (λ f. f) (tells (is_zero r)))
+plain_choice isa problem done c lawful sound legal = list_any-from_each is_zero (chosen c) (λ k r at. ⊎_elim (λ t. absurd (never k r at (is_zero-register r t))) (λ f. f) (cases_Bool (is_zero r)))
   where
     never : (k : ℕ) (r : Reg) → slice_get (chosen c) k ≡ Some r → r ≡ zero_register → ⊥
     never k r at same =
@@ -33,7 +34,7 @@ legal_choice-faithful isa problem done c lawful sound legal =
     let rules : KeepsRules isa problem done c = keeps_rules isa problem done c legal.rules in
     record {
       known = legal.of.known;
-      fresh = not_true (is_placed done c.item) rules.l1;
+      fresh = not-true (is_placed done c.item) rules.l1;
       sources = list_all-from_each (is_still_held done) (sources_in problem c.item) (λ k value at. (suits_operands isa problem done c sound legal k value at).still_held);
       conflicts = rules.l5;
       outputs = legal.of.outputs_given;

@@ -13,7 +13,10 @@ use Rattle.sl_model.specs.Body.{chosen, is_placed, is_full, held, all_differ, sa
 use Rattle.sl_model.specs.Legal.{Problem, IsLegalNext, IsLegalFrom, IsFullLegal, body_of, may_overwrite, is_final_in, is_still_read, suits_output, output_classes}
 use Rattle.renamer.specs.Faithful.{IsSound}
 use Rattle.renamer.specs.WellPosed.{is_made}
-use Rattle.renamer.proofs.OwnTests.{and_left, and_right, both, implied, either, not_true, tells, list_all-at, list_any-at, element_at, same_reg-equal, same_reg-refl, same_source-equal, same_source-refl, place_from-at, place_from-differ}
+use Rattle.std.proofs.lemmas.Bool.{not-true, cases_Bool}
+use Rattle.renamer.proofs.OrderState.{same_reg-true, same_reg-refl}
+use Rattle.renamer.proofs.OrderShare.{same_source-true}
+use Rattle.renamer.proofs.OwnTests.{and_left, and_right, both, implied, either, list_all-at, list_any-at, element_at, same_source-refl, place_from-at, place_from-differ}
 use Rattle.renamer.proofs.LegalityRules.{KeepsRules, keeps_rules, SuitsOutput, suits_outputs}
 
 -- A final register holds what it held before, or the output that is final there once that is placed.
@@ -31,7 +34,7 @@ kept isa problem done c j r value legal final stands =
           let found = place_from-at 0 r (chosen c) place is in
           let rules : KeepsRules isa problem done c = keeps_rules isa problem done c legal.rules in
           let may : may_overwrite problem done c.item r ≡ true = list_all-at (may_overwrite problem done c.item) (chosen c) found.0 r rules.l7 found.2 in
-          let not_final : is_final_in problem r (held done r) ≡ false = not_true (is_final_in problem r (held done r)) (and_left (not (is_final_in problem r (held done r))) (not (is_still_read problem done c.item (held done r))) may) in
+          let not_final : is_final_in problem r (held done r) ≡ false = not-true (is_final_in problem r (held done r)) (and_left (not (is_final_in problem r (held done r))) (not (is_still_read problem done c.item (held done r))) may) in
           let not_here : (same_reg r r && same_source value (held done r)) ≡ false = list_any-at (λ f. same_reg f.0 r && same_source f.1 (held done r)) problem.finals j (r, value) not_final final in
           let here : (same_reg r r && same_source value (held done r)) ≡ true = both (same_reg r r) (same_source value (held done r)) (same_reg-refl r) (ap (same_source value) stands ∙ same_source-refl value) in
           absurd (true≢false (sym here ∙ not_here))
@@ -46,7 +49,7 @@ put_there isa problem done c j r place sound legal final within =
     let rules : KeepsRules isa problem done c = keeps_rules isa problem done c legal.rules in
     let value : Source = Item c.item place in
     let there : same_reg r out.0 ≡ true = implied (same_source value value) (same_reg r out.0) (list_all-at (λ f. not (same_source f.1 value) || same_reg f.0 out.0) problem.finals j (r, value) suits.finals final) (same_source-refl value) in
-    let at : slice_get (chosen c) place ≡ Some r = out.1 ∙ ap (λ x. Some x) (sym (same_reg-equal r out.0 there)) in
+    let at : slice_get (chosen c) place ≡ Some r = out.1 ∙ ap (λ x. Some x) (sym (same_reg-true r out.0 there)) in
     let differ : all_differ (chosen c) ≡ true = and_right (list_all (suits_output isa problem c.item) (output_classes isa problem c)) (all_differ (chosen c)) rules.l4 in
     ap (λ o. output_or c.item o (held done r)) (place_from-differ 0 r (chosen c) place differ at)
     ∙ ap (λ n. Item c.item n) (omega arith)
@@ -58,7 +61,7 @@ stands-next isa problem done c j r (Entry q) sound legal final made stands = kep
 stands-next isa problem done c j r (Item item place) sound legal final made stands = now
   where
     now : is_placed (c ∷ done) item ≡ true → held (c ∷ done) r ≡ Item item place
-    now placed = ⊎_elim (λ before. kept isa problem done c j r (Item item place) legal final (stands before)) (λ not_before. first (after_or (eqb c.item item) (is_placed done item) placed not_before)) (tells (is_placed done item))
+    now placed = ⊎_elim (λ before. kept isa problem done c j r (Item item place) legal final (stands before)) (λ not_before. first (after_or (eqb c.item item) (is_placed done item) placed not_before)) (cases_Bool (is_placed done item))
       where
         after_or : (a b : Bool) → (a || b) ≡ true → b ≡ false → a ≡ true
         after_or true b e f = refl
@@ -78,7 +81,7 @@ stands-all isa problem done (c ∷ choices) j r value sound legal final made sta
 -- before the first choice
 stands-first : (problem : Problem) (r : Reg) (value : Source) → is_made problem (r, value) ≡ true → Stands [] r value
 unfolding held is_placed
-stands-first problem r (Entry q) made = ap (λ x. Entry x) (sym (same_reg-equal q r made))
+stands-first problem r (Entry q) made = ap (λ x. Entry x) (sym (same_reg-true q r made))
 stands-first problem r (Item item place) made = λ placed. absurd (true≢false (sym placed))
 
 -- what was placed is placed in whatever order it is listed

@@ -17,7 +17,8 @@ use Rattle.sl_model.specs.Body.{Body, chosen, given, all_differ, applied_item, a
 use Rattle.sl_model.specs.Lawful.{IsValid, suits_set, is_of_bank, is_tied_to, is_reg_at, is_some_reg}
 use Rattle.sl_model.specs.Legal.{Problem, IsLegalNext, IsLegalFrom, sources_in, body_of, suits_output, output_classes, is_tied, is_given, is_register}
 use Rattle.renamer.specs.Faithful.{IsSound}
-use Rattle.renamer.proofs.OwnTests.{and_left, and_right, not_true, list_all-at, list_all-from_each, element_at, zip-at}
+use Rattle.std.proofs.lemmas.Bool.{not-true}
+use Rattle.renamer.proofs.OwnTests.{and_left, and_right, list_all-at, list_all-from_each, element_at, zip-at}
 use Rattle.renamer.proofs.LegalityRules.{KeepsRules, keeps_rules, SuitsOutput, suits_outputs, SuitsOperand, suits_operands}
 
 -- places of registers
@@ -69,7 +70,7 @@ zip-parts (a ∷ xs) (b ∷ ys) (suc k) x y at = zip-parts xs ys k x y at
 suits-from_set : (r : Reg) (set : RegSet) → set_has set r ≡ true → suits_set (r, set) ≡ true
 unfolding set_has
 suits-from_set r set has =
-    let concrete : r.symbolic ≡ false = not_true r.symbolic (and_left (not r.symbolic) (nat_lt r.number (bank_size r.bank)) (and_left (is_of_machine r) (eqb (bit_at set.bits (bit_of r.bank r.number)) 1) has)) in
+    let concrete : r.symbolic ≡ false = not-true r.symbolic (and_left (not r.symbolic) (nat_lt r.number (bank_size r.bank)) (and_left (is_of_machine r) (eqb (bit_at set.bits (bit_of r.bank r.number)) 1) has)) in
     ap (λ b. if b then is_of_bank r.bank set else set_has set r) concrete ∙ has
 
 -- An item of a legal choice, applied, is an instruction of the set.

@@ -8,7 +8,6 @@ pub mod OrderStep
 pub mod OrderRun
 pub mod OrderKept
 pub mod OwnTests
-pub mod OwnStates
 pub mod OwnFlow
 pub mod LegalityRules
 pub mod LegalityFaithful

@@ -23,11 +23,12 @@ use Rattle.sl_model.specs.Body.{Body, Flow, flow_item, flow_from, flow_of, sourc
 use Rattle.sl_model.specs.Lawful.{IsLawful, IsValid, suits_set, zero_register, load_size}
 use Rattle.sl_model.specs.Legal.{numbers_below}
 use Rattle.renamer.specs.Faithful.{own_body, FlowIsRun}
-use Rattle.renamer.proofs.OwnTests.{list_all-at, list_any-at, list_any-from_each, zip-at, element_at, tells, same_bank, and_left, and_right, not_true}
+use Rattle.std.proofs.lemmas.Bool.{cases_Bool, not-true}
+use Rattle.renamer.proofs.OwnTests.{list_all-at, list_any-at, list_any-from_each, zip-at, element_at, and_left, and_right}
 use Rattle.std.proofs.lemmas.Option.{slice_get_within}
 use Rattle.std.proofs.lemmas.Bool.{eqb-true}
-use Rattle.sl_model.specs.Register.{bank_number}
-use Rattle.renamer.proofs.OwnStates.{value_or, read-memory, read-write_all, write_all-memory, length-load}
+use Rattle.sl_model.specs.Register.{bank_number, same_bool}
+use Rattle.renamer.proofs.OrderState.{landed, same_reg-true, read-write_all, write_all-memory, length-load}
 
 -- as many sets as have a register are at most all
 pub set_count-bound : (sets : List RegSet) → set_count sets ≤ length sets
@@ -41,16 +42,18 @@ set_count-bound (set ∷ sets) = bound (eqb set.bits 0) (set_count sets) (length
 
 -- the zero register is the one that the test finds
 pub is_zero-register : (r : Reg) → is_zero r ≡ true → r ≡ zero_register
-is_zero-register r found =
-    let rest : (not r.symbolic && eqb r.number 31) ≡ true = and_right (eqb (bank_number r.bank) 0) (not r.symbolic && eqb r.number 31) found in
-    let bank : r.bank ≡ General = same_bank r.bank General (and_left (eqb (bank_number r.bank) 0) (not r.symbolic && eqb r.number 31) found) in
-    let symbolic : r.symbolic ≡ false = not_true r.symbolic (and_left (not r.symbolic) (eqb r.number 31) rest) in
-    let number : r.number ≡ 31 = eqb-true r.number 31 (and_right (not r.symbolic) (eqb r.number 31) rest) in
-    λ i. record { bank = bank i; symbolic = symbolic i; number = number i }
+unfolding same_reg
+is_zero-register r found = same_reg-true r zero_register (is_same r ∙ found)
+  where
+    not_symbolic : (b : Bool) → same_bool b false ≡ not b
+    not_symbolic true = refl
+    not_symbolic false = refl
+    is_same : (r : Reg) → same_reg r zero_register ≡ is_zero r
+    is_same r = ap (λ b. eqb (bank_number r.bank) 0 && (b && eqb r.number 31)) (not_symbolic r.symbolic)
 
 -- no instruction of a lawful set writes the zero register
 pub plain_outputs : (isa : Isa) (i : Instr) → IsLawful isa → IsValid isa i → list_any is_zero (outputs i) ≡ false
-plain_outputs isa i lawful valid = list_any-from_each is_zero (outputs i) (λ k r at. ⊎_elim (λ t. absurd (never k r at (is_zero-register r t))) (λ f. f) (tells (is_zero r)))
+plain_outputs isa i lawful valid = list_any-from_each is_zero (outputs i) (λ k r at. ⊎_elim (λ t. absurd (never k r at (is_zero-register r t))) (λ f. f) (cases_Bool (is_zero r)))
   where
     never : (k : ℕ) (r : Reg) → slice_get (outputs i) k ≡ Some r → r ≡ zero_register → ⊥
     never k r at same =
@@ -65,6 +68,11 @@ length-if : (b : Bool) (xs : List ℕ) (n : ℕ) → length xs ≡ n → length 
 length-if true xs n e = e
 length-if false xs n e = refl
 
+-- the memory has no part in what a register reads
+read-memory : (s : State) (memory : FinMap nat_cmp ℕ) (r : Reg) → read (record { regs = s.regs; memory = memory }) r ≡ read s r
+unfolding read
+read-memory s memory r = refl
+
 -- an instruction gives a value for each output
 pub values_count : (isa : Isa) (i : Instr) (ins : List ℕ) (memory : FinMap nat_cmp ℕ) → IsLawful isa → IsValid isa i → length ins ≡ length (operands i) → length (values_of isa i ins memory) ≡ length (outputs i)
 unfolding values_of loaded_by
@@ -72,14 +80,14 @@ values_count isa i ins memory lawful valid given = lawful.value_count i ins (loa
     (length-if (is_load (isa.info i.form)) (load isa.space memory (address_of isa i ins) (isa.info i.form).size) (isa.info i.form).size (length-load isa.space memory (address_of isa i ins) (isa.info i.form).size))
 
 -- what a register reads after an instruction
-pub read-exec : (isa : Isa) (i : Instr) (s : State) (r : Reg) → IsLawful isa → IsValid isa i → read (exec isa i s) r ≡ value_or (place_from 0 r (outputs i)) (values_of isa i (operand_values i s) s.memory) (read s r)
+pub read-exec : (isa : Isa) (i : Instr) (s : State) (r : Reg) → IsLawful isa → IsValid isa i → read (exec isa i s) r ≡ landed (place_from 0 r (outputs i)) (values_of isa i (operand_values i s) s.memory) (read s r)
 unfolding exec
 read-exec isa i s r lawful valid =
     let given : length (operand_values i s) ≡ length (operands i) = length-map (operands i) (read s) in
     let values : List ℕ = values_of isa i (operand_values i s) s.memory in
     let memory : FinMap nat_cmp ℕ = memory_after isa i (operand_values i s) s.memory in
-    read-write_all r (outputs i) values (record { regs = s.regs; memory = memory }) valid.distinct (plain_outputs isa i lawful valid) (values_count isa i (operand_values i s) s.memory lawful valid given)
-    ∙ ap (λ v. value_or (place_from 0 r (outputs i)) values v) (read-memory s memory r)
+    read-write_all (outputs i) values (record { regs = s.regs; memory = memory }) r (plain_outputs isa i lawful valid) valid.distinct (sym (values_count isa i (operand_values i s) s.memory lawful valid given))
+    ∙ ap (λ v. landed (place_from 0 r (outputs i)) values v) (read-memory s memory r)
 
 -- the memory after an instruction
 pub exec-memory : (isa : Isa) (i : Instr) (s : State) → (exec isa i s).memory ≡ memory_after isa i (operand_values i s) s.memory
@@ -122,7 +130,7 @@ IsBefore-source_of r [] = tt
 IsBefore-source_of r (i ∷ above) = IsBefore-output_or (length above) (place_from 0 r (outputs i)) (source_of r above) (IsBefore-source_of r above)
 
 -- the value of an earlier source stays, and that of an output is the one at its place
-source_value-push : (s : State) (n : ℕ) (values : List ℕ) (all : List (ℕ × List ℕ)) (o : Option ℕ) (earlier : Source) → IsBefore n earlier → source_value s ((n, values) ∷ all) (output_or n o earlier) ≡ value_or o values (source_value s all earlier)
+source_value-push : (s : State) (n : ℕ) (values : List ℕ) (all : List (ℕ × List ℕ)) (o : Option ℕ) (earlier : Source) → IsBefore n earlier → source_value s ((n, values) ∷ all) (output_or n o earlier) ≡ landed o values (source_value s all earlier)
 unfolding output_value
 source_value-push s n values all None (Entry r) before = refl
 source_value-push s n values all None (Item item place) before =
@@ -163,9 +171,9 @@ follows-next isa items s n flow lawful valid within so_far =
         let earlier : Source = source_of r above in
         ap (λ state. read state r) ran
         ∙ read-exec isa i st r lawful valid
-        ∙ ap (λ v. value_or place (values_of isa i v st.memory) (read st r)) (sym given)
-        ∙ ap (λ m. value_or place (values_of isa i ins m) (read st r)) so_far.memory
-        ∙ ap (λ v. value_or place values v) (so_far.registers r)
+        ∙ ap (λ v. landed place (values_of isa i v st.memory) (read st r)) (sym given)
+        ∙ ap (λ m. landed place (values_of isa i ins m) (read st r)) so_far.memory
+        ∙ ap (λ v. landed place values v) (so_far.registers r)
         ∙ sym (source_value-push s n values flow.values place earlier (subst (λ m. IsBefore m earlier) count (IsBefore-source_of r above)))
         ∙ ap (λ m. source_value s ((n, values) ∷ flow.values) (output_or m place earlier)) (sym count)
         ∙ ap (λ l. source_value s ((n, values) ∷ flow.values) (source_of r l)) (sym turned);

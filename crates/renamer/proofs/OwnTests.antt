@@ -1,15 +1,14 @@
 -- Tests that hold, lists of tests by place, and registers and sources that are equal.
 use Rattle.std.proofs.Common.{◌≡◌, ◌≢◌, ℕ, zero, suc, ◌+◌, ◌<◌, ◌≤◌, Bool, true, false, ◌&&◌, ◌||◌, not, eqb, List, [], ◌∷◌, map, length, Option, None, Some, ◌⊎◌, inl, inr, ⊎_elim, if◌then◌else◌, refl, sym, ap, subst, ◌∙◌, true≢false, arith, is_some, slice_get, zip}
 use Rattle.std.specs.List.{list_all, list_any, enumerate_from}
-use Rattle.std.proofs.lemmas.Bool.{eqb-true, eq-eqb}
-use Rattle.sl_model.specs.declared.register.Bank.{Bank}
-use Rattle.sl_model.specs.declared.register.Bank.TheVariants.{General, Vector, Flags, Stack}
+use Rattle.std.proofs.lemmas.Bool.{cases_Bool, not-true, eq-eqb}
 use Rattle.sl_model.specs.declared.register.Reg.{Reg}
 use Rattle.sl_model.specs.declared.schedule.Source.{Source}
 use Rattle.sl_model.specs.declared.schedule.Source.TheVariants.{Entry, Item}
 use Rattle.sl_model.specs.Register.{bank_number, same_bool, same_reg}
 use Rattle.sl_model.specs.Body.{same_source, all_differ}
 use Rattle.sl_model.specs.Source.{place_from}
+use Rattle.renamer.proofs.OrderState.{same_reg-true, same_reg-refl}
 
 -- the parts of a test that joins two
 pub and_left : (a b : Bool) → (a && b) ≡ true → a ≡ true
@@ -36,24 +35,10 @@ pub either : (a b : Bool) → (a || b) ≡ true → (a ≡ true) ⊎ (b ≡ true
 either true b e = inl refl
 either false b e = inr e
 
--- a test that isn't true is false
-pub not_true : (a : Bool) → not a ≡ true → a ≡ false
-not_true true e = sym e
-not_true false e = refl
-
-pub not_false : (a : Bool) → not a ≡ false → a ≡ true
-not_false true e = refl
-not_false false e = sym e
-
 -- where one of two tests must hold and the first, denied, holds, the second does
 pub implied : (a b : Bool) → (not a || b) ≡ true → a ≡ true → b ≡ true
 implied true b e f = e
 implied false b e f = absurd (true≢false (sym f))
-
--- a test is true or false
-pub tells : (b : Bool) → (b ≡ true) ⊎ (b ≡ false)
-tells true = inl refl
-tells false = inr refl
 
 module _ {A : Type 0} where
   -- a test of a whole list is one of each of its places
@@ -99,67 +84,14 @@ module _ {A B : Type 0} where
 
 -- registers and sources
 
--- banks of one number are one
-pub same_bank : (a b : Bank) → eqb (bank_number a) (bank_number b) ≡ true → a ≡ b
-same_bank General General e = refl
-same_bank General Vector e = absurd (true≢false (sym e))
-same_bank General Flags e = absurd (true≢false (sym e))
-same_bank General Stack e = absurd (true≢false (sym e))
-same_bank Vector General e = absurd (true≢false (sym e))
-same_bank Vector Vector e = refl
-same_bank Vector Flags e = absurd (true≢false (sym e))
-same_bank Vector Stack e = absurd (true≢false (sym e))
-same_bank Flags General e = absurd (true≢false (sym e))
-same_bank Flags Vector e = absurd (true≢false (sym e))
-same_bank Flags Flags e = refl
-same_bank Flags Stack e = absurd (true≢false (sym e))
-same_bank Stack General e = absurd (true≢false (sym e))
-same_bank Stack Vector e = absurd (true≢false (sym e))
-same_bank Stack Flags e = absurd (true≢false (sym e))
-same_bank Stack Stack e = refl
-
-pub same_bool-equal : (a b : Bool) → same_bool a b ≡ true → a ≡ b
-same_bool-equal true true e = refl
-same_bool-equal true false e = sym e
-same_bool-equal false true e = e
-same_bool-equal false false e = refl
-
-same_bool-refl : (a : Bool) → same_bool a a ≡ true
-same_bool-refl true = refl
-same_bool-refl false = refl
-
--- registers that the test takes for one are equal
-pub same_reg-equal : (a b : Reg) → same_reg a b ≡ true → a ≡ b
-unfolding same_reg
-same_reg-equal a b e =
-    let bank : a.bank ≡ b.bank = same_bank a.bank b.bank (and_left (eqb (bank_number a.bank) (bank_number b.bank)) (same_bool a.symbolic b.symbolic && eqb a.number b.number) e) in
-    let rest : (same_bool a.symbolic b.symbolic && eqb a.number b.number) ≡ true = and_right (eqb (bank_number a.bank) (bank_number b.bank)) (same_bool a.symbolic b.symbolic && eqb a.number b.number) e in
-    let symbolic : a.symbolic ≡ b.symbolic = same_bool-equal a.symbolic b.symbolic (and_left (same_bool a.symbolic b.symbolic) (eqb a.number b.number) rest) in
-    let number : a.number ≡ b.number = eqb-true a.number b.number (and_right (same_bool a.symbolic b.symbolic) (eqb a.number b.number) rest) in
-    λ i. record { bank = bank i; symbolic = symbolic i; number = number i }
-
-pub same_reg-refl : (a : Reg) → same_reg a a ≡ true
-unfolding same_reg
-same_reg-refl a = both (eqb (bank_number a.bank) (bank_number a.bank)) (same_bool a.symbolic a.symbolic && eqb a.number a.number) (eq-eqb (bank_number a.bank) (bank_number a.bank) refl)
-    (both (same_bool a.symbolic a.symbolic) (eqb a.number a.number) (same_bool-refl a.symbolic) (eq-eqb a.number a.number refl))
-
 -- registers that the test tells apart differ
 pub same_reg-differ : (a b : Reg) → same_reg a b ≡ false → a ≢ b
 same_reg-differ a b e same = true≢false (sym (same_reg-refl a) ∙ ap (same_reg a) same ∙ e)
 
 pub same_reg-comm : (a b : Reg) → same_reg a b ≡ false → same_reg b a ≡ false
-same_reg-comm a b e = ⊎_elim (λ t. absurd (same_reg-differ a b e (sym (same_reg-equal b a t)))) (λ f. f) (tells (same_reg b a))
+same_reg-comm a b e = ⊎_elim (λ t. absurd (same_reg-differ a b e (sym (same_reg-true b a t)))) (λ f. f) (cases_Bool (same_reg b a))
 
--- sources that the test takes for one are equal
-pub same_source-equal : (a b : Source) → same_source a b ≡ true → a ≡ b
-same_source-equal (Entry a) (Entry b) e = ap (λ r. Entry r) (same_reg-equal a b e)
-same_source-equal (Entry a) (Item b k) e = absurd (true≢false (sym e))
-same_source-equal (Item a j) (Entry b) e = absurd (true≢false (sym e))
-same_source-equal (Item a j) (Item b k) e =
-    let item : a ≡ b = eqb-true a b (and_left (eqb a b) (eqb j k) e) in
-    let place : j ≡ k = eqb-true j k (and_right (eqb a b) (eqb j k) e) in
-    cc
-
+-- a source is itself
 pub same_source-refl : (a : Source) → same_source a a ≡ true
 same_source-refl (Entry a) = same_reg-refl a
 same_source-refl (Item a j) = both (eqb a a) (eqb j j) (eq-eqb a a refl) (eq-eqb j j refl)
@@ -177,7 +109,7 @@ unfolding place_from
 place_from-at j r [] k e = absurd (cc)
 place_from-at j r (q ∷ regs) k e =
     elim (same_reg q r) as (λ b. same_reg q r ≡ b → (if b then Some j else place_from (j + 1) r regs) ≡ Some k → (i : ℕ) × (k ≡ j + i) × (slice_get (q ∷ regs) i ≡ Some r)) [
-      | true ↦ λ is found. let at : j ≡ k = cc in (0, omega arith, ap (λ x. Some x) (same_reg-equal q r is))
+      | true ↦ λ is found. let at : j ≡ k = cc in (0, omega arith, ap (λ x. Some x) (same_reg-true q r is))
       | false ↦ λ is found. let rest = place_from-at (j + 1) r regs k found in (suc rest.0, omega (arith, rest.1), rest.2)
     ] refl e
 
@@ -204,7 +136,7 @@ place_from-differ j r (q ∷ regs) zero differ at =
     let n : j ≡ j + 0 = omega arith in
     ap (λ b. if b then Some j else place_from (j + 1) r regs) test ∙ ap (λ m. Some m) n
 place_from-differ j r (q ∷ regs) (suc k) differ at =
-    let none : place_from 0 q regs ≡ None = is_none_from (place_from 0 q regs) (not_true (is_some (place_from 0 q regs)) (and_left (not (is_some (place_from 0 q regs))) (all_differ regs) differ)) in
+    let none : place_from 0 q regs ≡ None = is_none_from (place_from 0 q regs) (not-true (is_some (place_from 0 q regs)) (and_left (not (is_some (place_from 0 q regs))) (all_differ regs) differ)) in
     let test : same_reg q r ≡ false = same_reg-comm r q (place_from-none 0 q regs k r none at) in
     let n : j + 1 + k ≡ j + suc k = omega arith in
     ap (λ b. if b then Some j else place_from (j + 1) r regs) test

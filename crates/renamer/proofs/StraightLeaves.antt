@@ -23,7 +23,9 @@ use Rattle.sl_model.specs.Legal.{Problem, IsLegalNext, IsLegalFrom, IsFullLegal,
 use Rattle.sl_model.specs.Program.{Program, Leaves, TagsHoldOf, is_one_of, times_of}
 use Rattle.sl_model.specs.Program.Program.{Straight}
 use Rattle.renamer.specs.Faithful.{IsSound, Carries, FlowIsRun, own_body, FaithfulOrdersCarry}
-use Rattle.renamer.proofs.OwnTests.{or_left, or_right, either, tells, list_any-at, same_reg-equal, place_from-at, place_from-misses}
+use Rattle.std.proofs.lemmas.Bool.{cases_Bool}
+use Rattle.renamer.proofs.OrderState.{same_reg-true}
+use Rattle.renamer.proofs.OwnTests.{or_left, or_right, either, list_any-at, place_from-at, place_from-misses}
 use Rattle.renamer.proofs.OwnFlow.{own_flow-run}
 use Rattle.renamer.proofs.LegalityRules.{SuitsOutput, suits_outputs}
 use Rattle.renamer.proofs.LegalityFaithful.{legal-faithful}
@@ -66,7 +68,7 @@ straight-allowed items live free costs p within =
 
 -- no output of a legal choice goes to a register that is neither written nor free
 straight-misses : (isa : Isa) (items : List Instr) (live free : List Reg) (costs : CostTable) (done : List Choice) (c : Choice) (r : Reg) → IsSound isa (body_of (straight_problem items live free costs)) → IsLegalNext isa (straight_problem items live free costs) done c → list_any (λ q. same_reg q r) (written items ++ free) ≡ false → place_from 0 r (chosen c) ≡ None
-straight-misses isa items live free costs done c r sound legal lacks = place_from-misses 0 r (chosen c) (λ k q at. ⊎_elim (λ t. absurd (never k q at (same_reg-equal q r t))) (λ f. f) (tells (same_reg q r)))
+straight-misses isa items live free costs done c r sound legal lacks = place_from-misses 0 r (chosen c) (λ k q at. ⊎_elim (λ t. absurd (never k q at (same_reg-true q r t))) (λ f. f) (cases_Bool (same_reg q r)))
   where
     never : (k : ℕ) (q : Reg) → slice_get (chosen c) k ≡ Some q → q ≡ r → ⊥
     never k q at same =

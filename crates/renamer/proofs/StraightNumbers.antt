@@ -3,7 +3,8 @@ use Rattle.std.proofs.Common.{◌≡◌, ◌≢◌, ℕ, zero, suc, ◌+◌, ◌
 use Rattle.sl_model.specs.Body.{above, stands_in}
 use Rattle.sl_model.specs.Legal.{numbers_below}
 use Rattle.renamer.specs.Faithful.{IsOnce}
-use Rattle.renamer.proofs.OwnTests.{either, or_left, or_right, tells}
+use Rattle.std.proofs.lemmas.Bool.{cases_Bool}
+use Rattle.renamer.proofs.OwnTests.{either, or_left, or_right}
 
 -- a number stands in a list and one more exactly where it stands in the list or is that one
 stands_in-push : (item : ℕ) (order : List ℕ) (last : ℕ) → stands_in item (order ++ last ∷ []) ≡ (stands_in item order || eqb last item)
@@ -38,7 +39,7 @@ below-lt (suc n) item stands =
 
 -- a number below the next one is below this one or is this one
 below_or_last : (n k : ℕ) → k < suc n → (k < n) ⊎ (n ≡ k)
-below_or_last n k lt = now (tells (eqb n k))
+below_or_last n k lt = now (cases_Bool (eqb n k))
   where
     now : (eqb n k ≡ true) ⊎ (eqb n k ≡ false) → (k < n) ⊎ (n ≡ k)
     now (inl e) = inr (eqb-true n k e)
@@ -59,7 +60,7 @@ lt-below (suc n) item lt =
 
 -- a number doesn't stand among those below it
 pub not-below : (n item : ℕ) → n ≤ item → stands_in item (numbers_below n) ≡ false
-not-below n item le = ⊎_elim (λ t. let lt : item < n = below-lt n item t in absurd (omega arith)) (λ f. f) (tells (stands_in item (numbers_below n)))
+not-below n item le = ⊎_elim (λ t. let lt : item < n = below-lt n item t in absurd (omega arith)) (λ f. f) (cases_Bool (stands_in item (numbers_below n)))
 
 above-in : (item : ℕ) (order rest : List ℕ) → stands_in item order ≡ true → above item (order ++ rest) ≡ above item order
 unfolding above stands_in
@@ -92,7 +93,7 @@ unfolding stands_in
 IsOnce-push [] last once lacks = (refl, tt)
 IsOnce-push (p ∷ order) last once lacks =
     let differ : eqb p last ≡ false = or_left (eqb p last) (stands_in last order) lacks in
-    let turned : eqb last p ≡ false = ⊎_elim (λ t. absurd (true≢false (sym (eq-eqb p last (sym (eqb-true last p t))) ∙ differ))) (λ f. f) (tells (eqb last p)) in
+    let turned : eqb last p ≡ false = ⊎_elim (λ t. absurd (true≢false (sym (eq-eqb p last (sym (eqb-true last p t))) ∙ differ))) (λ f. f) (cases_Bool (eqb last p)) in
     (stands_in-push p order last ∙ or_false (stands_in p order) (eqb last p) once.0 turned, IsOnce-push order last once.1 (or_right (eqb p last) (stands_in last order) lacks))
 
 -- no number stands twice below a number

@@ -19,7 +19,10 @@ use Rattle.sl_model.specs.Lawful.{IsValid}
 use Rattle.sl_model.specs.Legal.{Problem, sources_in, body_of, numbers_below, straight_problem}
 use Rattle.renamer.specs.Faithful.{IsSound, comes_from}
 use Rattle.renamer.specs.WellPosed.{IsWellPosed, is_made, sources_differ}
-use Rattle.renamer.proofs.OwnTests.{and_left, and_right, both, not_true, tells, list_any-map, list_all-from_each, list_any-from_each, same_reg-equal, same_reg-refl, same_source-equal, place_from-at, place_from-none, is_none_from}
+use Rattle.std.proofs.lemmas.Bool.{not-true, cases_Bool}
+use Rattle.renamer.proofs.OrderState.{same_reg-true, same_reg-refl}
+use Rattle.renamer.proofs.OrderShare.{same_source-true}
+use Rattle.renamer.proofs.OwnTests.{and_left, and_right, both, list_any-map, list_all-from_each, list_any-from_each, place_from-at, place_from-none, is_none_from}
 use Rattle.renamer.proofs.OwnFlow.{IsBefore, IsBefore-source_of}
 use Rattle.renamer.proofs.StraightNumbers.{below-lt, lt-below, above-below, once-below, at-below}
 
@@ -117,12 +120,12 @@ last_sources-differ items (r ∷ live) differ =
       (last_sources-differ items live (and_right (not (is_some (place_from 0 r live))) (all_differ live) differ))
   where
     none : place_from 0 r live ≡ None
-    none = is_none_from (place_from 0 r live) (not_true (is_some (place_from 0 r live)) (and_left (not (is_some (place_from 0 r live))) (all_differ live) differ))
+    none = is_none_from (place_from 0 r live) (not-true (is_some (place_from 0 r live)) (and_left (not (is_some (place_from 0 r live))) (all_differ live) differ))
     other : (k : ℕ) (q : Reg) → slice_get live k ≡ Some q → same_source (last_source items r) (last_source items q) ≡ false
     other k q at = ⊎_elim (λ t.
-        let one : last_source items r ≡ last_source items q = same_source-equal (last_source items r) (last_source items q) t in
+        let one : last_source items r ≡ last_source items q = same_source-true (last_source items r) (last_source items q) t in
         let same : q ≡ r = makes-one items (length items) q r (last_source items q) (makes-last items q) (subst (λ v. Makes items (length items) r v) one (makes-last items r)) in
-        absurd (true≢false (sym (ap (λ x. same_reg x r) same ∙ same_reg-refl r) ∙ place_from-none 0 r live k q none at))) (λ f. f) (tells (same_source (last_source items r) (last_source items q)))
+        absurd (true≢false (sym (ap (λ x. same_reg x r) same ∙ same_reg-refl r) ∙ place_from-none 0 r live k q none at))) (λ f. f) (cases_Bool (same_source (last_source items r) (last_source items q)))
 
 -- The straight problem of valid items and different live-out registers is well posed.
 pub straight-well_posed : (isa : Isa) (items : List Instr) (live free : List Reg) (costs : CostTable) → ((p : ℕ) → p < length items → IsValid isa (item_at items p)) → all_differ live ≡ true → IsWellPosed isa (straight_problem items live free costs)
