@@ -41,13 +41,13 @@ rule_kept false rule later e = absurd (cc)
 pub keeps_rules : (isa : Isa) (problem : Problem) (done : List Choice) (c : Choice) → first_broken isa problem done c ≡ None → KeepsRules isa problem done c
 unfolding first_broken
 keeps_rules isa problem done c none =
-    let r1 = rule_kept (keeps_l1 problem done c) L1 (if not (keeps_l2 isa problem done c) then Some L2 else if not (keeps_l3 isa problem done c) then Some L3 else if not (keeps_l4 isa problem c) then Some L4 else if not (keeps_l5 isa problem done c) then Some L5 else if not (keeps_l6 problem c) then Some L6 else if not (keeps_l7 problem done c) then Some L7 else None) none in
-    let r2 = rule_kept (keeps_l2 isa problem done c) L2 (if not (keeps_l3 isa problem done c) then Some L3 else if not (keeps_l4 isa problem c) then Some L4 else if not (keeps_l5 isa problem done c) then Some L5 else if not (keeps_l6 problem c) then Some L6 else if not (keeps_l7 problem done c) then Some L7 else None) r1.1 in
-    let r3 = rule_kept (keeps_l3 isa problem done c) L3 (if not (keeps_l4 isa problem c) then Some L4 else if not (keeps_l5 isa problem done c) then Some L5 else if not (keeps_l6 problem c) then Some L6 else if not (keeps_l7 problem done c) then Some L7 else None) r2.1 in
-    let r4 = rule_kept (keeps_l4 isa problem c) L4 (if not (keeps_l5 isa problem done c) then Some L5 else if not (keeps_l6 problem c) then Some L6 else if not (keeps_l7 problem done c) then Some L7 else None) r3.1 in
-    let r5 = rule_kept (keeps_l5 isa problem done c) L5 (if not (keeps_l6 problem c) then Some L6 else if not (keeps_l7 problem done c) then Some L7 else None) r4.1 in
-    let r6 = rule_kept (keeps_l6 problem c) L6 (if not (keeps_l7 problem done c) then Some L7 else None) r5.1 in
-    let r7 = rule_kept (keeps_l7 problem done c) L7 None r6.1 in
+    let r1 = rule_kept (keeps_l1 problem done c) L1 _ none in
+    let r2 = rule_kept (keeps_l2 isa problem done c) L2 _ r1.1 in
+    let r3 = rule_kept (keeps_l3 isa problem done c) L3 _ r2.1 in
+    let r4 = rule_kept (keeps_l4 isa problem c) L4 _ r3.1 in
+    let r5 = rule_kept (keeps_l5 isa problem done c) L5 _ r4.1 in
+    let r6 = rule_kept (keeps_l6 problem c) L6 _ r5.1 in
+    let r7 = rule_kept (keeps_l7 problem done c) L7 _ r6.1 in
     record { l1 = r1.0; l2 = r2.0; l3 = r3.0; l4 = r4.0; l5 = r5.0; l6 = r6.0; l7 = r7.0 }
 
 -- what holds of an output at a place

@@ -13,6 +13,7 @@ pub mod LegalityRules
 pub mod LegalityFaithful
 pub mod LegalityFinals
 pub mod LegalityValid
+pub mod LegalityCarries
 pub mod StraightNumbers
 pub mod StraightSets
 pub mod StraightPosed

@@ -22,7 +22,8 @@ use Rattle.sl_model.specs.Lawful.{IsLawful, IsValid}
 use Rattle.sl_model.specs.Legal.{Problem, IsLegalNext, IsLegalFrom, IsFullLegal, allowed_in, body_of, numbers_below, sources_in, straight_problem, written}
 use Rattle.sl_model.specs.Program.{Program, Leaves, TagsHoldOf, is_one_of, times_of}
 use Rattle.sl_model.specs.Program.Program.{Straight}
-use Rattle.renamer.specs.Faithful.{IsSound, Carries, FlowIsRun, own_body, FaithfulOrdersCarry}
+use Rattle.renamer.specs.Faithful.{IsSound, Carries, FlowIsRun, own_body}
+use Rattle.renamer.proofs.OrderRun.{order-carries}
 use Rattle.std.proofs.lemmas.Bool.{cases_Bool}
 use Rattle.renamer.proofs.OrderState.{same_reg-true}
 use Rattle.renamer.proofs.OwnTests.{or_left, or_right, either, list_any-at, place_from-at, place_from-misses}
@@ -111,9 +112,9 @@ final_at items live free costs r one =
     (found.0, slice_get-map final live found.0 ∙ ap (option_map final) found.1)
 
 -- A full legal schedule of a straight list leaves what the list leaves.
-pub straight-leaves : (isa : Isa) (items : List Instr) (live free : List Reg) (costs : CostTable) (schedule : List Choice) (s : State) (decrement : Bool → Reg → Instr) → FaithfulOrdersCarry isa → IsLawful isa → ((p : ℕ) → p < length items → IsValid isa (item_at items p)) → IsFullLegal isa (straight_problem items live free costs) schedule → TagsHoldOf isa.space (touches isa items s) → Leaves isa decrement live free (Straight items) (Straight (applied (body_of (straight_problem items live free costs)) schedule)) s
+pub straight-leaves : (isa : Isa) (items : List Instr) (live free : List Reg) (costs : CostTable) (schedule : List Choice) (s : State) (decrement : Bool → Reg → Instr) → IsLawful isa → ((p : ℕ) → p < length items → IsValid isa (item_at items p)) → IsFullLegal isa (straight_problem items live free costs) schedule → TagsHoldOf isa.space (touches isa items s) → Leaves isa decrement live free (Straight items) (Straight (applied (body_of (straight_problem items live free costs)) schedule)) s
 unfolding held
-straight-leaves isa items live free costs schedule s decrement carry lawful valid legal tags =
+straight-leaves isa items live free costs schedule s decrement lawful valid legal tags =
     let problem : Problem = straight_problem items live free costs in
     let body : Body = body_of problem in
     let sound : IsSound isa body = straight-sound isa items live free costs valid in
@@ -121,7 +122,7 @@ straight-leaves isa items live free costs schedule s decrement carry lawful vali
     let one : flow_of isa body s ≡ flow_of isa (own_body items) s = straight-flow isa items live free costs s in
     let accesses : touches isa items s ≡ (flow_of isa body s).touches = own.accesses ∙ ap (λ (flow : Flow). flow.touches) (sym one) in
     let memory : (flow_of isa body s).memory ≡ (run isa items s).memory = ap (λ (flow : Flow). flow.memory) one ∙ sym own.memory in
-    let carried : Carries isa body schedule s = carry body schedule s sound (legal-faithful isa problem [] schedule lawful sound legal.legal) legal.full (subst (TagsHoldOf isa.space) accesses tags) in
+    let carried : Carries isa body schedule s = order-carries isa body s lawful sound (subst (TagsHoldOf isa.space) accesses tags) schedule (legal-faithful isa problem [] schedule lawful sound legal.legal) legal.full in
     record {
       registers = λ r live_out.
         let final = final_at items live free costs r live_out in

@@ -10,10 +10,10 @@ use Rattle.sl_model.specs.Source.{operands, item_at, last_source, list_sources}
 use Rattle.sl_model.specs.State.{State, read, byte}
 use Rattle.sl_model.specs.Isa.{Isa}
 use Rattle.sl_model.specs.Exec.{Touch, run, touches}
-use Rattle.sl_model.specs.Body.{Body, flow_of, source_value, held, applied, above, stands_in, is_full, IsFaithfulFrom}
+use Rattle.sl_model.specs.Body.{Body, flow_of, source_value, held, applied, above, stands_in}
 use Rattle.sl_model.specs.Lawful.{IsValid}
 use Rattle.sl_model.specs.Legal.{numbers_below}
-use Rattle.sl_model.specs.Program.{times_of, TagsHoldOf}
+use Rattle.sl_model.specs.Program.{times_of}
 
 -- Is a source what a register held before the first item, or an output of one of these items?
 abbrev pub comes_from : List ℕ → Source → Bool
@@ -50,13 +50,3 @@ pub record FlowIsRun (isa : Isa) (items : List Instr) (s : State) : Type 0 where
   pub registers : (r : Reg) → read (run isa items s) r ≡ source_value s (flow_of isa (own_body items) s).values (last_source items r)
   pub memory : (run isa items s).memory ≡ (flow_of isa (own_body items) s).memory
   pub accesses : touches isa items s ≡ (flow_of isa (own_body items) s).touches
-
--- In any faithful full order in which no two accesses tagged apart share a byte, the items compute what they computed.
-abbrev pub FaithfulOrdersCarry : Isa → Type 0
-FaithfulOrdersCarry isa =
-    (body : Body) (schedule : List Choice) (s : State)
-    → IsSound isa body
-    → IsFaithfulFrom isa body [] schedule
-    → is_full body.order schedule ≡ true
-    → TagsHoldOf isa.space (flow_of isa body s).touches
-    → Carries isa body schedule s

@@ -1,3 +1,4 @@
 pub mod Faithful
+pub mod Outcome
 pub mod WellPosed
 pub mod Written

@@ -4,4 +4,4 @@ use Rattle.renamer.proofs.LegalityValid.{applied-valid}
 use Rattle.renamer.proofs.legality.applied_is_valid.Goals as goal
 
 pub returns : goal.returns
-returns c isa problem schedule posed legal = applied-valid isa problem [] schedule posed.sound legal
+returns c isa problem schedule sound legal = applied-valid isa problem [] schedule sound legal
