@@ -1,9 +1,7 @@
 -- A legal list of choices is faithful.
-use Rattle.std.proofs.Common.{◌≡◌, ℕ, Bool, true, false, List, [], ◌∷◌, Some, ⊎_elim, refl, sym, ap, subst, ◌∙◌, true≢false, slice_get}
+use Rattle.std.proofs.Common.{◌≡◌, ℕ, true, false, List, [], ◌∷◌, Some, ⊎_elim, sym, subst, ◌∙◌, true≢false, slice_get}
 use Rattle.std.specs.List.{list_all, list_any}
 use Rattle.sl_model.specs.declared.register.Reg.{Reg}
-use Rattle.sl_model.specs.declared.register.RegSet.{RegSet}
-use Rattle.sl_model.specs.declared.instruction.FormInfo.{FormInfo}
 use Rattle.sl_model.specs.declared.schedule.Choice.{Choice}
 use Rattle.sl_model.specs.RegSets.{set_has}
 use Rattle.sl_model.specs.State.{is_zero}
@@ -16,7 +14,7 @@ use Rattle.renamer.specs.Faithful.{IsSound}
 use Rattle.std.proofs.lemmas.Bool.{not-true, cases_Bool}
 use Rattle.renamer.proofs.OwnTests.{and_right, list_all-from_each, list_any-from_each, list_any-at}
 use Rattle.renamer.proofs.OwnFlow.{is_zero-register}
-use Rattle.renamer.proofs.LegalityRules.{KeepsRules, keeps_rules, SuitsOutput, suits_outputs, SuitsOperand, suits_operands}
+use Rattle.renamer.proofs.LegalityRules.{KeepsRules, keeps_rules, SuitsOutput, suits_outputs, suits_operands}
 
 -- no output of a legal choice goes to the zero register
 plain_choice : (isa : Isa) (problem : Problem) (done : List Choice) (c : Choice) → IsLawful isa → IsSound isa (body_of problem) → IsLegalNext isa problem done c → list_any is_zero (chosen c) ≡ false

@@ -1,6 +1,6 @@
 -- After a full legal schedule each final register holds its value.
-use Rattle.std.proofs.Common.{◌≡◌, ◌≢◌, ℕ, ◌+◌, ◌<◌, Bool, true, false, ◌&&◌, ◌||◌, not, eqb, nat_lt, List, [], ◌∷◌, reverse, length, Option, None, Some, ◌⊎◌, inl, inr, ⊎_elim, refl, sym, ap, subst, ◌∙◌, true≢false, arith, slice_get, eqb-true, ltb-true}
-use Rattle.std.specs.List.{list_all, list_any}
+use Rattle.std.proofs.Common.{◌≡◌, ℕ, ◌<◌, Bool, true, false, ◌&&◌, ◌||◌, not, eqb, nat_lt, List, [], ◌∷◌, reverse, length, None, Some, ◌⊎◌, inl, inr, ⊎_elim, refl, sym, ap, subst, ◌∙◌, true≢false, arith, slice_get, eqb-true, ltb-true}
+use Rattle.std.specs.List.{list_all}
 use mathlib.Core.List.{reverse_aux}
 use Rattle.sl_model.specs.declared.register.Reg.{Reg}
 use Rattle.sl_model.specs.declared.schedule.Choice.{Choice}
@@ -15,7 +15,6 @@ use Rattle.renamer.specs.Faithful.{IsSound}
 use Rattle.renamer.specs.WellPosed.{is_made}
 use Rattle.std.proofs.lemmas.Bool.{not-true, cases_Bool}
 use Rattle.renamer.proofs.OrderState.{same_reg-true, same_reg-refl}
-use Rattle.renamer.proofs.OrderShare.{same_source-true}
 use Rattle.renamer.proofs.OwnTests.{and_left, and_right, both, implied, either, list_all-at, list_any-at, element_at, same_source-refl, place_from-at, place_from-differ}
 use Rattle.renamer.proofs.LegalityRules.{KeepsRules, keeps_rules, SuitsOutput, suits_outputs}
 
@@ -66,6 +65,7 @@ stands-next isa problem done c j r (Item item place) sound legal final made stan
         after_or : (a b : Bool) → (a || b) ≡ true → b ≡ false → a ≡ true
         after_or true b e f = refl
         after_or false b e f = absurd (true≢false (sym e ∙ f))
+
         first : eqb c.item item ≡ true → held (c ∷ done) r ≡ Item item place
         first test =
             let same : c.item ≡ item = eqb-true c.item item test in
@@ -115,4 +115,4 @@ pub finals-hold : (isa : Isa) (problem : Problem) (schedule : List Choice) → I
 finals-hold isa problem schedule sound all_made legal j r value final =
     let made : is_made problem (r, value) ≡ true = list_all-at (is_made problem) problem.finals j (r, value) all_made final in
     stands-holds problem schedule r value legal.full made
-      (stands-all isa problem [] schedule j r value sound legal.legal final made (stands-first problem r value made))
+    (stands-all isa problem [] schedule j r value sound legal.legal final made (stands-first problem r value made))

@@ -1,23 +1,22 @@
 -- What the rules say of each operand and of each output of a legal choice.
-use Rattle.std.proofs.Common.{◌≡◌, ℕ, zero, suc, ◌+◌, ◌<◌, ◌≤◌, Bool, true, false, ◌&&◌, ◌||◌, not, List, [], ◌∷◌, length, Option, None, Some, if◌then◌else◌, refl, sym, ap, subst, ◌∙◌, true≢false, arith, slice_get, zip}
-use Rattle.std.specs.List.{list_all, list_any, enumerate_from}
+use Rattle.std.proofs.Common.{◌≡◌, ℕ, ◌<◌, Bool, true, false, ◌&&◌, not, List, length, Option, None, Some, if◌then◌else◌, refl, sym, ap, ◌∙◌, true≢false, arith, slice_get, zip}
+use Rattle.std.specs.List.{list_all}
 use Rattle.std.proofs.lemmas.Option.{slice_get_within}
 use Rattle.sl_model.specs.declared.register.Reg.{Reg}
 use Rattle.sl_model.specs.declared.register.RegSet.{RegSet}
 use Rattle.sl_model.specs.declared.instruction.Instr.{Instr}
-use Rattle.sl_model.specs.declared.instruction.FormInfo.{FormInfo}
 use Rattle.sl_model.specs.declared.schedule.Choice.{Choice}
 use Rattle.sl_model.specs.declared.schedule.Source.{Source}
-use Rattle.sl_model.specs.declared.schedule.Source.TheVariants.{Entry, Item}
+use Rattle.sl_model.specs.declared.schedule.Source.TheVariants.{Item}
 use Rattle.sl_model.specs.declared.problem.Rule.{Rule}
 use Rattle.sl_model.specs.declared.problem.Rule.TheVariants.{L1, L2, L3, L4, L5, L6, L7}
-use Rattle.sl_model.specs.RegSets.{set_has, set_count}
+use Rattle.sl_model.specs.RegSets.{set_has}
 use Rattle.sl_model.specs.Register.{same_bool}
-use Rattle.sl_model.specs.Source.{operands, outputs, item_at}
+use Rattle.sl_model.specs.Source.{outputs, item_at}
 use Rattle.sl_model.specs.Isa.{Isa}
-use Rattle.sl_model.specs.Body.{Body, chosen, given, is_still_held, stands_in, all_differ}
+use Rattle.sl_model.specs.Body.{chosen, given, is_still_held, all_differ}
 use Rattle.sl_model.specs.Lawful.{IsValid}
-use Rattle.sl_model.specs.Legal.{Problem, IsLegalNext, IsOf, sources_in, allowed_in, body_of, is_held_in, is_in_set, operand_classes, output_classes, suits_output, suits_readers, suits_finals, is_flags, first_broken, keeps_l1, keeps_l2, keeps_l3, keeps_l4, keeps_l5, keeps_l6, keeps_l7}
+use Rattle.sl_model.specs.Legal.{Problem, IsLegalNext, sources_in, allowed_in, body_of, is_held_in, is_in_set, operand_classes, output_classes, suits_output, suits_readers, suits_finals, is_flags, first_broken, keeps_l1, keeps_l2, keeps_l3, keeps_l4, keeps_l5, keeps_l6, keeps_l7}
 use Rattle.renamer.specs.Faithful.{IsSound}
 use Rattle.renamer.proofs.OwnTests.{and_left, and_right, list_all-at, zip-at, element_at, enumerate_from-at}
 use Rattle.renamer.proofs.OwnFlow.{set_count-bound}
@@ -78,10 +77,10 @@ suits_outputs isa problem done c sound legal k r at =
     let set = element_at sets k (omega (arith, within, legal.of.outputs_given, valid.output_count, set_count-bound sets)) in
     let original = element_at (outputs i) k (omega (arith, within, legal.of.outputs_given)) in
     let beside : slice_get (output_classes isa problem c) k ≡ Some (k, ((r, set.0), original.0)) =
-        enumerate_from-at 0 (zip (zip (chosen c) sets) (outputs i)) k ((r, set.0), original.0) (zip-at (zip (chosen c) sets) (outputs i) k (r, set.0) original.0 (zip-at (chosen c) sets k r set.0 at set.1) original.1)
-        ∙ ap (λ n. Some (n, ((r, set.0), original.0))) (omega arith) in
+    enumerate_from-at 0 (zip (zip (chosen c) sets) (outputs i)) k ((r, set.0), original.0) (zip-at (zip (chosen c) sets) (outputs i) k (r, set.0) original.0 (zip-at (chosen c) sets k r set.0 at set.1) original.1)
+    ∙ ap (λ n. Some (n, ((r, set.0), original.0))) (omega arith) in
     let suits : suits_output isa problem c.item (k, ((r, set.0), original.0)) ≡ true =
-        list_all-at (suits_output isa problem c.item) (output_classes isa problem c) k (k, ((r, set.0), original.0)) (and_left (list_all (suits_output isa problem c.item) (output_classes isa problem c)) (all_differ (chosen c)) rules.l4) beside in
+    list_all-at (suits_output isa problem c.item) (output_classes isa problem c) k (k, ((r, set.0), original.0)) (and_left (list_all (suits_output isa problem c.item) (output_classes isa problem c)) (all_differ (chosen c)) rules.l4) beside in
     let readers : Bool = suits_readers isa problem (Item c.item k) r in
     let finals : Bool = suits_finals problem (Item c.item k) r in
     let flags : Bool = same_bool (is_flags original.0) (is_flags r) in

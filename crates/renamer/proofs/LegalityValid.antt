@@ -1,5 +1,5 @@
 -- Each instruction of an applied legal schedule is one of the instruction set.
-use Rattle.std.proofs.Common.{◌≡◌, ℕ, zero, suc, ◌+◌, ◌<◌, ◌≤◌, Bool, true, false, ◌&&◌, not, eqb, nat_lt, List, [], ◌∷◌, length, Option, None, Some, if◌then◌else◌, refl, sym, ap, subst, ◌∙◌, true≢false, arith, slice_get, filter_map, option_map, zip}
+use Rattle.std.proofs.Common.{◌≡◌, ℕ, zero, suc, ◌<◌, ◌≤◌, true, false, not, eqb, nat_lt, List, [], ◌∷◌, length, Option, None, Some, if◌then◌else◌, refl, sym, ap, subst, ◌∙◌, true≢false, arith, slice_get, filter_map, option_map, zip}
 use Rattle.std.specs.Int.{bit_at}
 use Rattle.std.specs.List.{list_all, cons_option}
 use Rattle.std.proofs.lemmas.Option.{slice_get_within}
@@ -10,15 +10,14 @@ use Rattle.sl_model.specs.declared.instruction.FormInfo.{FormInfo}
 use Rattle.sl_model.specs.declared.schedule.Choice.{Choice}
 use Rattle.sl_model.specs.declared.schedule.Source.{Source}
 use Rattle.sl_model.specs.RegSets.{set_has, bank_size, is_of_machine, bit_of}
-use Rattle.sl_model.specs.Register.{same_reg}
-use Rattle.sl_model.specs.Source.{operands, outputs, item_at, padded}
+use Rattle.sl_model.specs.Source.{operands, item_at, padded}
 use Rattle.sl_model.specs.Isa.{Isa}
-use Rattle.sl_model.specs.Body.{Body, chosen, given, all_differ, applied_item, applied_from}
+use Rattle.sl_model.specs.Body.{chosen, given, all_differ, applied_item, applied_from}
 use Rattle.sl_model.specs.Lawful.{IsValid, suits_set, is_of_bank, is_tied_to, is_reg_at, is_some_reg}
 use Rattle.sl_model.specs.Legal.{Problem, IsLegalNext, IsLegalFrom, sources_in, body_of, suits_output, output_classes, is_tied, is_given, is_register}
 use Rattle.renamer.specs.Faithful.{IsSound}
 use Rattle.std.proofs.lemmas.Bool.{not-true}
-use Rattle.renamer.proofs.OwnTests.{and_left, and_right, list_all-at, list_all-from_each, element_at, zip-at}
+use Rattle.renamer.proofs.OwnTests.{and_left, and_right, list_all-at, list_all-from_each, element_at}
 use Rattle.renamer.proofs.LegalityRules.{KeepsRules, keeps_rules, SuitsOutput, suits_outputs, SuitsOperand, suits_operands}
 
 -- places of registers
@@ -83,7 +82,7 @@ applied_item-valid isa problem done c sound legal =
     let regs : List Reg = filter_map (given done) sources in
     let info : FormInfo = isa.info i.form in
     let each : (k : ℕ) (value : Source) → slice_get sources k ≡ Some value → (r : Reg) × (given done value ≡ Some r) =
-        λ (k : ℕ) (value : Source) (at : slice_get sources k ≡ Some value). ((suits_operands isa problem done c sound legal k value at).register, (suits_operands isa problem done c sound legal k value at).given_it) in
+    λ (k : ℕ) (value : Source) (at : slice_get sources k ≡ Some value). ((suits_operands isa problem done c sound legal k value at).register, (suits_operands isa problem done c sound legal k value at).given_it) in
     let as_many : length regs ≡ length (operands i) = filter_map-length (given done) sources each ∙ sound.operands_have c.item legal.of.known in
     let places : length i.ins ≡ 4 = ap length valid.ins_shape ∙ length-padded 4 (operands i) in
     let few : length (operands i) ≤ 4 = omega (arith, filter_map-bound (λ (r : Option Reg). r) i.ins) in
@@ -95,11 +94,11 @@ applied_item-valid isa problem done c sound legal =
       operand_count = ap length back ∙ as_many ∙ valid.operand_count;
       output_count = legal.of.outputs_given ∙ valid.output_count;
       operand_classes = subst (λ l. list_all suits_set (zip l info.in_sets) ≡ true) (sym back)
-        (list_all-from_each suits_set (zip regs info.in_sets) (λ k x at. operand_suits each k x.0 x.1 (zip-parts regs info.in_sets k x.0 x.1 at)));
+          (list_all-from_each suits_set (zip regs info.in_sets) (λ k x at. operand_suits each k x.0 x.1 (zip-parts regs info.in_sets k x.0 x.1 at)));
       output_classes = list_all-from_each suits_set (zip (chosen c) info.out_sets) (λ k x at. output_suits k x.0 x.1 (zip-parts (chosen c) info.out_sets k x.0 x.1 at));
       distinct = and_right (list_all (suits_output isa problem c.item) (output_classes isa problem c)) (all_differ (chosen c)) rules.l4;
       tied = subst (λ l. list_all (is_tied_to l) (zip (chosen c) info.tied) ≡ true) (sym back)
-        (list_all-from_each (is_tied_to regs) (zip (chosen c) info.tied) (λ k x at. tied_suits each x.0 x.1 (list_all-at (is_tied problem done c.item) (zip (chosen c) info.tied) k x rules.l3 at)));
+          (list_all-from_each (is_tied_to regs) (zip (chosen c) info.tied) (λ k x at. tied_suits each x.0 x.1 (list_all-at (is_tied problem done c.item) (zip (chosen c) info.tied) k x rules.l3 at)));
     }
   where
     operand_suits : ((k : ℕ) (value : Source) → slice_get (sources_in problem c.item) k ≡ Some value → (r : Reg) × (given done value ≡ Some r)) → (k : ℕ) (r : Reg) (set : RegSet) → (slice_get (filter_map (given done) (sources_in problem c.item)) k ≡ Some r) × (slice_get (isa.info (item_at problem.items c.item).form).in_sets k ≡ Some set) → suits_set (r, set) ≡ true
@@ -113,17 +112,20 @@ applied_item-valid isa problem done c sound legal =
         let beside : Some suits.set ≡ Some set = sym suits.set_at ∙ at.1 in
         let same_set : suits.set ≡ set = cc in
         subst (λ x. suits_set (r, x) ≡ true) same_set (subst (λ x. suits_set (x, suits.set) ≡ true) same (suits-from_set suits.register suits.set suits.set_has_it))
+
     output_suits : (k : ℕ) (r : Reg) (set : RegSet) → (slice_get (chosen c) k ≡ Some r) × (slice_get (isa.info (item_at problem.items c.item).form).out_sets k ≡ Some set) → suits_set (r, set) ≡ true
     output_suits k r set at =
         let suits : SuitsOutput isa problem c k r = suits_outputs isa problem done c sound legal k r at.0 in
         let beside : Some suits.set ≡ Some set = sym suits.set_at ∙ at.1 in
         let same_set : suits.set ≡ set = cc in
         subst (λ x. suits_set (r, x) ≡ true) same_set (suits-from_set r suits.set suits.set_has_it)
+
     given_suits : (value : Source) (k : ℕ) (r : Reg) → ((k : ℕ) (value : Source) → slice_get (sources_in problem c.item) k ≡ Some value → (r : Reg) × (given done value ≡ Some r)) → slice_get (sources_in problem c.item) k ≡ Some value → is_register r (given done value) ≡ true → is_reg_at (filter_map (given done) (sources_in problem c.item)) k r ≡ true
     given_suits value k r each at is =
         let found = each k value at in
         ap (λ o. is_some_reg o r) (filter_map-at (given done) (sources_in problem c.item) each k value at ∙ found.1)
         ∙ sym (ap (is_register r) found.1) ∙ is
+
     tied_suits : ((k : ℕ) (value : Source) → slice_get (sources_in problem c.item) k ≡ Some value → (r : Reg) × (given done value ≡ Some r)) → (r : Reg) (o : Option ℕ) → is_tied problem done c.item (r, o) ≡ true → is_tied_to (filter_map (given done) (sources_in problem c.item)) (r, o) ≡ true
     tied_suits each r None is = refl
     tied_suits each r (Some k) is =

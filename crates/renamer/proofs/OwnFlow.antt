@@ -1,32 +1,29 @@
 -- The flow of a list's own body is its run.
-use Rattle.std.proofs.Common.{◌≡◌, ◌≢◌, ℕ, zero, suc, ◌+◌, ◌<◌, ◌≤◌, ◌%◌, Bool, true, false, cond, ◌&&◌, ◌||◌, not, eqb, List, [], ◌∷◌, ◌++◌, append-nil, append_assoc, map, reverse, length, take, take_all, take-suc, Option, None, Some, ◌⊎◌, inl, inr, ⊎_elim, if◌then◌else◌, refl, sym, ap, subst, ◌∙◌, true≢false, arith, eq-eqb, length-take-le, le_refl, le_of_lt, is_some, slice_get, slice_index, slice_index_or, nat_cmp}
+use Rattle.std.proofs.Common.{◌≡◌, ◌≢◌, ℕ, zero, suc, ◌+◌, ◌<◌, ◌≤◌, Bool, true, false, ◌&&◌, not, eqb, List, [], ◌∷◌, ◌++◌, append-nil, append_assoc, map, reverse, length, take, take_all, take-suc, Option, None, Some, ⊎_elim, if◌then◌else◌, refl, sym, ap, subst, ◌∙◌, true≢false, arith, eq-eqb, length-take-le, le_refl, le_of_lt, slice_get, slice_index, nat_cmp}
 use Rattle.std.specs.FinMap.{FinMap}
-use Rattle.std.specs.List.{list_all, list_any, zip}
+use Rattle.std.specs.List.{list_any, zip}
 use Rattle.std.proofs.lemmas.List.{reverse-append, length-map}
 use Rattle.std.proofs.lemmas.Simd.{map-map}
 use Rattle.std.proofs.Math.ListN.{length-reverse}
 use Rattle.std.proofs.lemmas.Bool.{ne_eqb}
-use Rattle.sl_model.specs.declared.register.Bank.TheVariants.{General}
 use Rattle.sl_model.specs.declared.register.Reg.{Reg}
 use Rattle.sl_model.specs.declared.register.RegSet.{RegSet}
 use Rattle.sl_model.specs.declared.instruction.Instr.{Instr}
-use Rattle.sl_model.specs.declared.instruction.FormInfo.{FormInfo}
 use Rattle.sl_model.specs.declared.schedule.Source.{Source}
 use Rattle.sl_model.specs.declared.schedule.Source.TheVariants.{Entry, Item}
 use Rattle.sl_model.specs.Register.{same_reg}
 use Rattle.sl_model.specs.RegSets.{set_has, set_count}
-use Rattle.sl_model.specs.State.{State, read, write_all, is_zero, load}
-use Rattle.sl_model.specs.Source.{operands, outputs, item_at, no_instr, list_sources, last_source, source_of, place_from, output_or}
-use Rattle.sl_model.specs.Isa.{Isa, op_of}
-use Rattle.sl_model.specs.Exec.{Touch, exec, run, touches, touches_of, operand_values, values_of, memory_after, loaded_by, is_load, address_of}
-use Rattle.sl_model.specs.Body.{Body, Flow, flow_item, flow_from, flow_of, source_value, sources_values, output_value, all_differ}
-use Rattle.sl_model.specs.Lawful.{IsLawful, IsValid, suits_set, zero_register, load_size}
+use Rattle.sl_model.specs.State.{State, read, is_zero, load}
+use Rattle.sl_model.specs.Source.{operands, outputs, item_at, no_instr, list_sources, source_of, place_from, output_or}
+use Rattle.sl_model.specs.Isa.{Isa}
+use Rattle.sl_model.specs.Exec.{exec, run, touches, touches_of, operand_values, values_of, memory_after, loaded_by, is_load, address_of}
+use Rattle.sl_model.specs.Body.{Body, Flow, flow_item, flow_from, flow_of, source_value, sources_values, output_value}
+use Rattle.sl_model.specs.Lawful.{IsLawful, IsValid, suits_set, zero_register}
 use Rattle.sl_model.specs.Legal.{numbers_below}
 use Rattle.renamer.specs.Faithful.{own_body, FlowIsRun}
-use Rattle.std.proofs.lemmas.Bool.{cases_Bool, not-true}
-use Rattle.renamer.proofs.OwnTests.{list_all-at, list_any-at, list_any-from_each, zip-at, element_at, and_left, and_right}
+use Rattle.std.proofs.lemmas.Bool.{cases_Bool}
+use Rattle.renamer.proofs.OwnTests.{list_all-at, list_any-at, list_any-from_each, zip-at, element_at}
 use Rattle.std.proofs.lemmas.Option.{slice_get_within}
-use Rattle.std.proofs.lemmas.Bool.{eqb-true}
 use Rattle.sl_model.specs.Register.{bank_number, same_bool}
 use Rattle.renamer.proofs.OrderState.{landed, same_reg-true, read-write_all, write_all-memory, length-load}
 
@@ -48,6 +45,7 @@ is_zero-register r found = same_reg-true r zero_register (is_same r ∙ found)
     not_symbolic : (b : Bool) → same_bool b false ≡ not b
     not_symbolic true = refl
     not_symbolic false = refl
+
     is_same : (r : Reg) → same_reg r zero_register ≡ is_zero r
     is_same r = ap (λ b. eqb (bank_number r.bank) 0 && (b && eqb r.number 31)) (not_symbolic r.symbolic)
 
@@ -162,31 +160,31 @@ follows-next isa items s n flow lawful valid within so_far =
     let ran : run isa (take (suc n) items) s ≡ exec isa i st = ap (λ l. run isa l s) split ∙ run-push isa (take n items) i s in
     let count : length above ≡ n = length-reverse (take n items) ∙ length-take-le n items (le_of_lt within) in
     let given : ins ≡ operand_values i st =
-        map-map (source_value s flow.values) (λ r. source_of r above) (operands i)
-        ∙ map-agree (λ r. source_value s flow.values (source_of r above)) (read st) (operands i) (λ r. sym (so_far.registers r)) in
+    map-map (source_value s flow.values) (λ r. source_of r above) (operands i)
+    ∙ map-agree (λ r. source_value s flow.values (source_of r above)) (read st) (operands i) (λ r. sym (so_far.registers r)) in
     let values : List ℕ = values_of isa i ins flow.memory in
     record {
       registers = λ r.
-        let place : Option ℕ = place_from 0 r (outputs i) in
-        let earlier : Source = source_of r above in
-        ap (λ state. read state r) ran
-        ∙ read-exec isa i st r lawful valid
-        ∙ ap (λ v. landed place (values_of isa i v st.memory) (read st r)) (sym given)
-        ∙ ap (λ m. landed place (values_of isa i ins m) (read st r)) so_far.memory
-        ∙ ap (λ v. landed place values v) (so_far.registers r)
-        ∙ sym (source_value-push s n values flow.values place earlier (subst (λ m. IsBefore m earlier) count (IsBefore-source_of r above)))
-        ∙ ap (λ m. source_value s ((n, values) ∷ flow.values) (output_or m place earlier)) (sym count)
-        ∙ ap (λ l. source_value s ((n, values) ∷ flow.values) (source_of r l)) (sym turned);
+          let place : Option ℕ = place_from 0 r (outputs i) in
+          let earlier : Source = source_of r above in
+          ap (λ state. read state r) ran
+          ∙ read-exec isa i st r lawful valid
+          ∙ ap (λ v. landed place (values_of isa i v st.memory) (read st r)) (sym given)
+          ∙ ap (λ m. landed place (values_of isa i ins m) (read st r)) so_far.memory
+          ∙ ap (λ v. landed place values v) (so_far.registers r)
+          ∙ sym (source_value-push s n values flow.values place earlier (subst (λ m. IsBefore m earlier) count (IsBefore-source_of r above)))
+          ∙ ap (λ m. source_value s ((n, values) ∷ flow.values) (output_or m place earlier)) (sym count)
+          ∙ ap (λ l. source_value s ((n, values) ∷ flow.values) (source_of r l)) (sym turned);
       memory =
-        ap (λ (state : State). state.memory) ran
-        ∙ exec-memory isa i st
-        ∙ ap (λ v. memory_after isa i v st.memory) (sym given)
-        ∙ ap (λ m. memory_after isa i ins m) so_far.memory;
+          ap (λ (state : State). state.memory) ran
+          ∙ exec-memory isa i st
+          ∙ ap (λ v. memory_after isa i v st.memory) (sym given)
+          ∙ ap (λ m. memory_after isa i ins m) so_far.memory;
       accesses =
-        ap (λ l. touches isa l s) split
-        ∙ touches-push isa (take n items) i s
-        ∙ ap (λ v. touches isa (take n items) s ++ touches_of isa i v) (sym given)
-        ∙ ap (λ t. t ++ touches_of isa i ins) so_far.accesses;
+          ap (λ l. touches isa l s) split
+          ∙ touches-push isa (take n items) i s
+          ∙ ap (λ v. touches isa (take n items) s ++ touches_of isa i v) (sym given)
+          ∙ ap (λ t. t ++ touches_of isa i ins) so_far.accesses;
     }
 
 follows-all : (isa : Isa) (items : List Instr) (s : State) → IsLawful isa → ((p : ℕ) → p < length items → IsValid isa (item_at items p)) → (n : ℕ) → n ≤ length items → Follows isa items s n (flow_from isa (own_body items) s (empty_flow s) (numbers_below n))
@@ -195,8 +193,8 @@ follows-all isa items s lawful valid zero le = record { registers = λ r. refl; 
 follows-all isa items s lawful valid (suc n) le =
     let within : n < length items = omega arith in
     subst (Follows isa items s (suc n)) (sym (flow_from-push isa (own_body items) s (empty_flow s) (numbers_below n) n))
-      (follows-next isa items s n (flow_from isa (own_body items) s (empty_flow s) (numbers_below n)) lawful (valid n within) within
-        (follows-all isa items s lawful valid n (le_of_lt within)))
+    (follows-next isa items s n (flow_from isa (own_body items) s (empty_flow s) (numbers_below n)) lawful (valid n within) within
+    (follows-all isa items s lawful valid n (le_of_lt within)))
 
 -- The flow of a list's own body is its run.
 pub own_flow-run : (isa : Isa) (items : List Instr) (s : State) → IsLawful isa → ((p : ℕ) → p < length items → IsValid isa (item_at items p)) → FlowIsRun isa items s

@@ -1,11 +1,11 @@
 -- Tests that hold, lists of tests by place, and registers and sources that are equal.
-use Rattle.std.proofs.Common.{◌≡◌, ◌≢◌, ℕ, zero, suc, ◌+◌, ◌<◌, ◌≤◌, Bool, true, false, ◌&&◌, ◌||◌, not, eqb, List, [], ◌∷◌, map, length, Option, None, Some, ◌⊎◌, inl, inr, ⊎_elim, if◌then◌else◌, refl, sym, ap, subst, ◌∙◌, true≢false, arith, is_some, slice_get, zip}
+use Rattle.std.proofs.Common.{◌≡◌, ◌≢◌, ℕ, zero, suc, ◌+◌, ◌<◌, Bool, true, false, ◌&&◌, ◌||◌, not, eqb, List, [], ◌∷◌, map, length, Option, None, Some, ◌⊎◌, inl, inr, ⊎_elim, if◌then◌else◌, refl, sym, ap, ◌∙◌, true≢false, arith, is_some, slice_get, zip}
 use Rattle.std.specs.List.{list_all, list_any, enumerate_from}
 use Rattle.std.proofs.lemmas.Bool.{cases_Bool, not-true, eq-eqb}
 use Rattle.sl_model.specs.declared.register.Reg.{Reg}
 use Rattle.sl_model.specs.declared.schedule.Source.{Source}
 use Rattle.sl_model.specs.declared.schedule.Source.TheVariants.{Entry, Item}
-use Rattle.sl_model.specs.Register.{bank_number, same_bool, same_reg}
+use Rattle.sl_model.specs.Register.{same_reg}
 use Rattle.sl_model.specs.Body.{same_source, all_differ}
 use Rattle.sl_model.specs.Source.{place_from}
 use Rattle.renamer.proofs.OrderState.{same_reg-true, same_reg-refl}
@@ -121,9 +121,9 @@ place_from-none j r (p ∷ regs) k q e at =
     elim (same_reg p r) as (λ b. same_reg p r ≡ b → (if b then Some j else place_from (j + 1) r regs) ≡ None → same_reg q r ≡ false) [
       | true ↦ λ is found. absurd (cc)
       | false ↦ λ is found. elim k as (λ k. slice_get (p ∷ regs) k ≡ Some q → same_reg q r ≡ false) [
-          | zero ↦ λ here. let same : p ≡ q = cc in ap (λ x. same_reg x r) (sym same) ∙ is
-          | suc k ↦ λ here. place_from-none (j + 1) r regs k q found here
-        ] at
+        | zero ↦ λ here. let same : p ≡ q = cc in ap (λ x. same_reg x r) (sym same) ∙ is
+        | suc k ↦ λ here. place_from-none (j + 1) r regs k q found here
+      ] at
     ] refl e
 
 -- in a list of different registers each is found at its place

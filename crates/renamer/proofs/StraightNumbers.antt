@@ -1,5 +1,5 @@
 -- The numbers below a number, in their order.
-use Rattle.std.proofs.Common.{◌≡◌, ◌≢◌, ℕ, zero, suc, ◌+◌, ◌<◌, ◌≤◌, Bool, true, false, ◌&&◌, ◌||◌, not, eqb, List, [], ◌∷◌, ◌++◌, length, length-append, Option, Some, ◌⊎◌, inl, inr, ⊎_elim, if◌then◌else◌, refl, sym, ap, subst, ◌∙◌, true≢false, arith, slice_get, eqb-true, eq-eqb, ne_eqb}
+use Rattle.std.proofs.Common.{◌≡◌, ◌≢◌, ℕ, zero, suc, ◌<◌, ◌≤◌, Bool, true, false, ◌||◌, eqb, List, [], ◌∷◌, ◌++◌, length, length-append, Some, ◌⊎◌, inl, inr, ⊎_elim, if◌then◌else◌, refl, sym, ap, subst, ◌∙◌, true≢false, arith, slice_get, eqb-true, eq-eqb}
 use Rattle.sl_model.specs.Body.{above, stands_in}
 use Rattle.sl_model.specs.Legal.{numbers_below}
 use Rattle.renamer.specs.Faithful.{IsOnce}
@@ -33,9 +33,9 @@ unfolding numbers_below stands_in
 below-lt zero item stands = absurd (true≢false (sym stands))
 below-lt (suc n) item stands =
     ⊎_elim
-      (λ before. let lt : item < n = below-lt n item before in let le : item < suc n = omega arith in le)
-      (λ last. let same : n ≡ item = eqb-true n item last in let le : item < suc n = omega arith in le)
-      (either (stands_in item (numbers_below n)) (eqb n item) (sym (stands_in-push item (numbers_below n) n) ∙ stands))
+    (λ before. let lt : item < n = below-lt n item before in let le : item < suc n = omega arith in le)
+    (λ last. let same : n ≡ item = eqb-true n item last in let le : item < suc n = omega arith in le)
+    (either (stands_in item (numbers_below n)) (eqb n item) (sym (stands_in-push item (numbers_below n) n) ∙ stands))
 
 -- a number below the next one is below this one or is this one
 below_or_last : (n k : ℕ) → k < suc n → (k < n) ⊎ (n ≡ k)
@@ -54,9 +54,9 @@ lt-below zero item lt = absurd (omega arith)
 lt-below (suc n) item lt =
     stands_in-push item (numbers_below n) n
     ∙ ⊎_elim
-        (λ less. ap (λ b. b || eqb n item) (lt-below n item less))
-        (λ last. or_true (stands_in item (numbers_below n)) (eqb n item) (eq-eqb n item last))
-        (below_or_last n item lt)
+    (λ less. ap (λ b. b || eqb n item) (lt-below n item less))
+    (λ last. or_true (stands_in item (numbers_below n)) (eqb n item) (eq-eqb n item last))
+    (below_or_last n item lt)
 
 -- a number doesn't stand among those below it
 pub not-below : (n item : ℕ) → n ≤ item → stands_in item (numbers_below n) ≡ false
@@ -84,9 +84,9 @@ unfolding numbers_below
 above-below zero item lt = absurd (omega arith)
 above-below (suc n) item lt =
     ⊎_elim
-      (λ less. above-in item (numbers_below n) (n ∷ []) (lt-below n item less) ∙ above-below n item less)
-      (λ last. subst (λ m. above m (numbers_below n ++ n ∷ []) ≡ numbers_below m) last (above-last n (numbers_below n) (not-below n n (omega arith))))
-      (below_or_last n item lt)
+    (λ less. above-in item (numbers_below n) (n ∷ []) (lt-below n item less) ∙ above-below n item less)
+    (λ last. subst (λ m. above m (numbers_below n ++ n ∷ []) ≡ numbers_below m) last (above-last n (numbers_below n) (not-below n n (omega arith))))
+    (below_or_last n item lt)
 
 IsOnce-push : (order : List ℕ) (last : ℕ) → IsOnce order → stands_in last order ≡ false → IsOnce (order ++ last ∷ [])
 unfolding stands_in
@@ -123,6 +123,6 @@ at-below zero k lt = absurd (omega arith)
 at-below (suc n) k lt =
     let seam : slice_get (numbers_below n ++ n ∷ []) n ≡ Some n = subst (λ m. slice_get (numbers_below n ++ n ∷ []) m ≡ Some n) (length-below n) (slice_get-seam (numbers_below n) n) in
     ⊎_elim
-      (λ less. slice_get-front (numbers_below n) (n ∷ []) k k (at-below n k less))
-      (λ last. subst (λ m. slice_get (numbers_below n ++ n ∷ []) m ≡ Some m) last seam)
-      (below_or_last n k lt)
+    (λ less. slice_get-front (numbers_below n) (n ∷ []) k k (at-below n k less))
+    (λ last. subst (λ m. slice_get (numbers_below n ++ n ∷ []) m ≡ Some m) last seam)
+    (below_or_last n k lt)

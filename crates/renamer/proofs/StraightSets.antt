@@ -1,5 +1,5 @@
 -- A register that is none of some registers isn't in the set of those.
-use Rattle.std.proofs.Common.{◌≡◌, ◌≢◌, ℕ, zero, suc, ◌+◌, ◌<◌, ◌≤◌, ◌^◌, max, Bool, true, false, ◌&&◌, ◌||◌, not, nat_lt, eqb, bit_or, List, [], ◌∷◌, Option, None, Some, ⊎_elim, if◌then◌else◌, refl, sym, ap, subst, ◌∙◌, true≢false, arith, is_some, ltb-true}
+use Rattle.std.proofs.Common.{◌≡◌, ◌≢◌, ℕ, ◌+◌, ◌<◌, ◌^◌, max, true, false, ◌&&◌, ◌||◌, not, nat_lt, eqb, bit_or, List, [], ◌∷◌, Some, if◌then◌else◌, refl, sym, ap, ◌∙◌, arith, is_some, ltb-true}
 use Rattle.std.specs.Int.{bit_at}
 use Rattle.std.specs.List.{list_any}
 use Rattle.std.proofs.lemmas.Nat.Bits.{bit_at-zero, bit_at-pow_other, bit_at_or}
@@ -10,8 +10,7 @@ use Rattle.sl_model.specs.Register.{same_reg}
 use Rattle.sl_model.specs.RegSets.{bit_of, bank_size, is_of_machine, set_has, set_of}
 use Rattle.sl_model.specs.Source.{place_from}
 use Rattle.sl_model.specs.Program.{is_one_of}
-use Rattle.std.proofs.lemmas.Bool.{not-true, cases_Bool}
-use Rattle.renamer.proofs.OrderState.{same_reg-refl}
+use Rattle.std.proofs.lemmas.Bool.{not-true}
 use Rattle.renamer.proofs.OwnTests.{and_left, and_right, or_left, or_right, same_reg-differ}
 
 -- a register is one of some exactly where a test of each finds it
@@ -53,8 +52,8 @@ bits_differ q r here there differ e =
     let there_lt : r.number < bank_size r.bank = ltb-true r.number (bank_size r.bank) (and_right (not r.symbolic) (nat_lt r.number (bank_size r.bank)) there) in
     let same = same_bit q.bank r.bank q.number r.number here_lt there_lt (sym e) in
     let symbolic : q.symbolic ≡ r.symbolic =
-        not-true q.symbolic (and_left (not q.symbolic) (nat_lt q.number (bank_size q.bank)) here)
-        ∙ sym (not-true r.symbolic (and_left (not r.symbolic) (nat_lt r.number (bank_size r.bank)) there)) in
+    not-true q.symbolic (and_left (not q.symbolic) (nat_lt q.number (bank_size q.bank)) here)
+    ∙ sym (not-true r.symbolic (and_left (not r.symbolic) (nat_lt r.number (bank_size r.bank)) there)) in
     same_reg-differ q r differ (λ i. record { bank = same.0 i; symbolic = symbolic i; number = same.1 i })
 
 set_of-lacks_bit : (r : Reg) (regs : List Reg) → is_of_machine r ≡ true → list_any (λ q. same_reg q r) regs ≡ false → bit_at (set_of regs).bits (bit_of r.bank r.number) ≡ 0

@@ -1,5 +1,5 @@
 -- What a problem needs so that its legal schedules compute what its items compute.
-use Rattle.std.specs.Prelude.{ℕ, ◌≡◌, Bool, true, ◌&&◌, not, nat_lt, map, [], ◌∷◌, List, length}
+use Rattle.std.specs.Prelude.{◌≡◌, Bool, true, ◌&&◌, not, nat_lt, map, [], ◌∷◌, List, length}
 use Rattle.std.specs.List.{list_all, list_any}
 use Rattle.sl_model.specs.declared.register.Reg.{Reg}
 use Rattle.sl_model.specs.declared.schedule.Source.{Source}
