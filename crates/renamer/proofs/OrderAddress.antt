@@ -1,6 +1,5 @@
 -- Disjoint ranges on one base give disjoint addresses.
-use Rattle.std.proofs.Common.{◌≡◌, ℕ, ◌+◌, ◌-◌, ◌*◌, ◌%◌, ◌^◌, ◌<◌, ◌≤◌, ◌⊎◌, Bool, true, false, ◌||◌, ℤ, pos, negsuc, ◌+ℤ◌, ◌≤ℤ◌, int_le, unsigned_abs, refl, sym, ◌∙◌, ap, ap₂, subst, ⊎_elim, arith, mod-lt, mod-eq_of_lt, add_comm}
-use Rattle.std.specs.Int.{int_rem_euclid}
+use Rattle.std.proofs.Common.{◌≡◌, ℕ, ◌+◌, ◌-◌, ◌*◌, ◌%◌, ◌^◌, ◌<◌, ◌≤◌, ◌⊎◌, true, ℤ, pos, negsuc, ◌+ℤ◌, ◌≤ℤ◌, int_le, unsigned_abs, refl, sym, ◌∙◌, ap, ⊎_elim, arith, mod-lt, mod-eq_of_lt}
 use Rattle.std.proofs.lemmas.Bool.{or_cases}
 use Rattle.std.proofs.lemmas.Bool.{cases_lt, cases_order}
 use Rattle.std.proofs.lemmas.Int.{ints, int_rem_euclid_is}
@@ -16,12 +15,12 @@ apart_mod space x d some small same =
     let moved : (x % space + d) % space ≡ x % space = mod-add-mod x space d ∙ same in
     ⊎_elim
     (λ (below : x % space + d < space).
-      let is : x % space + d ≡ x % space = sym (mod-eq_of_lt below) ∙ moved in
-      omega arith)
+    let is : x % space + d ≡ x % space = sym (mod-eq_of_lt below) ∙ moved in
+    omega arith)
     (λ (above : space ≤ x % space + d).
-      let less : x % space + d - space < space = omega arith in
-      let is : x % space + d - space ≡ x % space = sym (mod-eq_of_lt less) ∙ sym (mod-eq-sub-mod above) ∙ moved in
-      omega arith)
+    let less : x % space + d - space < space = omega arith in
+    let is : x % space + d - space ≡ x % space = sym (mod-eq_of_lt less) ∙ sym (mod-eq-sub-mod above) ∙ moved in
+    omega arith)
     (cases_lt (x % space + d) space)
 
 -- So two numbers with one remainder that are near are one number.
@@ -29,14 +28,16 @@ near_mod : (space x y : ℕ) → x < y + space → y < x + space → x % space �
 near_mod space x y left right same = ⊎_elim
     (λ (is : x ≡ y). is)
     (λ (rest : (x < y) ⊎ (y < x)). ⊎_elim
-      (λ (less : x < y).
-        let y_is : x + (y - x) ≡ y = omega arith in
-        absurd (apart_mod space x (y - x) (omega arith) (omega arith) (ap (λ n. n % space) y_is ∙ sym same)))
-      (λ (more : y < x).
-        let x_is : y + (x - y) ≡ x = omega arith in
-        absurd (apart_mod space y (x - y) (omega arith) (omega arith) (ap (λ n. n % space) x_is ∙ same)))
-      rest)
+    (λ (less : x < y).
+    let y_is : x + (y - x) ≡ y = omega arith in
+    absurd (apart_mod space x (y - x) (omega arith) (omega arith) (ap (λ n. n % space) y_is ∙ sym same)))
+    (λ (more : y < x).
+    let x_is : y + (x - y) ≡ x = omega arith in
+    absurd (apart_mod space y (x - y) (omega arith) (omega arith) (ap (λ n. n % space) x_is ∙ same)))
+    rest)
     (cases_order x y)
+
+-- A number that is not negative is its own absolute value.
 
 not_negative : (z : ℤ) → pos 0 ≤ℤ z → z ≡ pos (unsigned_abs z)
 not_negative (pos n) e = refl
@@ -46,8 +47,12 @@ not_negative (negsuc n) e = absurd (omega (arith, ints))
 abbrev raised : ℤ → ℕ
 raised offset = unsigned_abs (offset +ℤ pos (2 ^ 20))
 
+-- a raised offset is a natural number
+
 raised-is : (offset : ℤ) → pos 0 ≤ℤ (offset +ℤ pos (2 ^ 20)) → offset +ℤ pos (2 ^ 20) ≡ pos (raised offset)
 raised-is offset low = not_negative (offset +ℤ pos (2 ^ 20)) low
+
+-- a base and an offset, moved by the size of the space, as a natural number
 
 sum_is : (base space u : ℕ) (offset : ℤ) → 2 ^ 32 ≤ space → offset +ℤ pos (2 ^ 20) ≡ pos u → (pos base +ℤ offset) +ℤ pos (1 * space) ≡ pos (base + (space - 2 ^ 20) + u)
 sum_is base space u offset large e = omega (arith, ints)
@@ -64,11 +69,17 @@ pub record IsSmall (offset : ℤ) (size : ℕ) : Type 0 where
   pub high : offset ≤ℤ pos (2 ^ 20)
   pub short : size ≤ 32
 
+-- a raised offset is small
+
 raised_high : (offset : ℤ) (u : ℕ) → offset +ℤ pos (2 ^ 20) ≡ pos u → offset ≤ℤ pos (2 ^ 20) → u ≤ 2 ^ 21
 raised_high offset u e high = omega (arith, ints)
 
+-- raised offsets keep the order of their ranges
+
 raised_before : (a b : ℤ) (u v m : ℕ) → a +ℤ pos (2 ^ 20) ≡ pos u → b +ℤ pos (2 ^ 20) ≡ pos v → int_le (a +ℤ pos m) b ≡ true → u + m ≤ v
 raised_before a b u v m ea eb before = omega (arith, ints)
+
+-- Places in two ranges, one of which ends before the other begins, are not one address.
 
 clash : (c u v i j m n space : ℕ) → 2 ^ 32 ≤ space → u ≤ 2 ^ 21 → v ≤ 2 ^ 21 → u + m ≤ v → i < m → j < n → m ≤ 32 → n ≤ 32 → (c + u + i) % space ≡ (c + v + j) % space → ⊥
 clash c u v i j m n space large hu hv order hi hj hm hn same =

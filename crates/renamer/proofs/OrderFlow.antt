@@ -1,16 +1,16 @@
 -- What the flow of a body computes, item by item, with the operands' values taken from the whole flow.
-use Rattle.std.proofs.Common.{◌≡◌, ℕ, zero, suc, ◌+◌, Bool, true, false, not, ◌&&◌, ◌||◌, cond, eqb, ◌⊎◌, List, [], ◌∷◌, ◌++◌, map, Option, Some, None, unwrap_or, slice_index, refl, sym, ◌∙◌, ap, ap₂, subst, inl, inr, ⊎_elim, true≢false, arith, add_assoc}
+use Rattle.std.proofs.Common.{◌≡◌, ℕ, ◌+◌, Bool, true, false, not, ◌||◌, cond, eqb, List, [], ◌∷◌, ◌++◌, Option, None, unwrap_or, slice_index, refl, sym, ◌∙◌, ap, ap₂, subst, inl, inr, ⊎_elim, arith, add_assoc}
 use Rattle.std.specs.List.{list_all}
 use Rattle.std.specs.Ordering.{nat_cmp}
 use Rattle.std.specs.FinMap.{FinMap}
-use Rattle.std.proofs.lemmas.Bool.{cases_Bool, and_parts, and_from, or_cases, or_left, or_right, or_parts, not-true, not_from_false, both_ways, cond-true, cond-false, eqb-true, eqb-false, eq-eqb, ne_eqb}
+use Rattle.std.proofs.lemmas.Bool.{cases_Bool, and_parts, and_from, or_cases, or_left, or_right, or_parts, not-true, not_from_false, both_ways, cond-true, cond-false, eqb-true, eqb-false, eq-eqb}
 use Rattle.sl_model.specs.declared.instruction.Instr.{Instr}
 use Rattle.sl_model.specs.declared.schedule.Source.{Source}
 use Rattle.sl_model.specs.declared.schedule.Source.TheVariants.{Entry, Item}
 use Rattle.sl_model.specs.State.{State, byte, store}
 use Rattle.sl_model.specs.Isa.{Isa, op_of}
 use Rattle.sl_model.specs.Exec.{Touch, has_access, is_store, address_of, touch_of, touches_of, values_of, memory_after}
-use Rattle.sl_model.specs.Program.{IsAmong, is_access, times_of}
+use Rattle.sl_model.specs.Program.{IsAmong, times_of}
 use Rattle.sl_model.specs.Body.{Body, Flow, flow_item, flow_from, flow_of, output_value, source_value, sources_values, above, stands_in}
 use Rattle.renamer.specs.Faithful.{IsOnce, IsSound, comes_from}
 use Rattle.renamer.proofs.OrderState.{stored_at, byte-store}
@@ -26,12 +26,12 @@ pub byte-after : (isa : Isa) (i : Instr) (ins : List ℕ) (memory : FinMap nat_c
 unfolding memory_after leaves_byte
 byte-after isa i ins memory at = ⊎_elim
     (λ (stores : is_store (isa.info i.form) ≡ true).
-      ap (λ m. byte m at) (cond-true (is_store (isa.info i.form)) (store isa.space (address_of isa i ins) (isa.stored (op_of i) ins) memory) memory stores)
-      ∙ byte-store isa.space (address_of isa i ins) (isa.stored (op_of i) ins) memory at
-      ∙ ap (λ o. unwrap_or o (byte memory at)) (sym (cond-true (is_store (isa.info i.form)) (stored_at isa.space (address_of isa i ins) (isa.stored (op_of i) ins) at) None stores)))
+    ap (λ m. byte m at) (cond-true (is_store (isa.info i.form)) (store isa.space (address_of isa i ins) (isa.stored (op_of i) ins) memory) memory stores)
+    ∙ byte-store isa.space (address_of isa i ins) (isa.stored (op_of i) ins) memory at
+    ∙ ap (λ o. unwrap_or o (byte memory at)) (sym (cond-true (is_store (isa.info i.form)) (stored_at isa.space (address_of isa i ins) (isa.stored (op_of i) ins) at) None stores)))
     (λ (stores : is_store (isa.info i.form) ≡ false).
-      ap (λ m. byte m at) (cond-false (is_store (isa.info i.form)) (store isa.space (address_of isa i ins) (isa.stored (op_of i) ins) memory) memory stores)
-      ∙ ap (λ o. unwrap_or o (byte memory at)) (sym (cond-false (is_store (isa.info i.form)) (stored_at isa.space (address_of isa i ins) (isa.stored (op_of i) ins) at) None stores)))
+    ap (λ m. byte m at) (cond-false (is_store (isa.info i.form)) (store isa.space (address_of isa i ins) (isa.stored (op_of i) ins) memory) memory stores)
+    ∙ ap (λ o. unwrap_or o (byte memory at)) (sym (cond-false (is_store (isa.info i.form)) (stored_at isa.space (address_of isa i ins) (isa.stored (op_of i) ins) at) None stores)))
     (cases_Bool (is_store (isa.info i.form)))
 
 -- accesses counted in two lists, one after the other
@@ -42,9 +42,13 @@ times_of-append a (x ∷ xs) ys =
     let rest : times_of a (xs ++ ys) ≡ times_of a xs + times_of a ys = times_of-append a xs ys in
     omega arith
 
+-- an access among some is among more
+
 among-left : (a : Touch) (xs ys : List Touch) → IsAmong a xs → IsAmong a (xs ++ ys)
 among-left a [] ys h = absurd h
 among-left a (x ∷ xs) ys h = ⊎_elim (λ (same : a ≡ x). inl same) (λ (rest : IsAmong a xs). inr (among-left a xs ys rest)) h
+
+-- and the same behind others
 
 among-right : (a : Touch) (xs ys : List Touch) → IsAmong a ys → IsAmong a (xs ++ ys)
 among-right a [] ys h = h
@@ -59,38 +63,48 @@ is_grounded order up (Item item place) = not (stands_in item order) || stands_in
 abbrev Grounded : Body → List ℕ → Type 0
 Grounded body order = (p : ℕ) → stands_in p order ≡ true → list_all (is_grounded order (above p order)) (body.sources p) ≡ true
 
+-- sources that all pass a test all pass a weaker one
+
 list_all-weaken : (f g : Source → Bool) (xs : List Source) → ((x : Source) → f x ≡ true → g x ≡ true) → list_all f xs ≡ true → list_all g xs ≡ true
 list_all-weaken f g [] weaker h = refl
 list_all-weaken f g (x ∷ xs) weaker h =
     let parts = and_parts (f x) (list_all f xs) h in
     and_from (g x) (list_all g xs) (weaker x parts.0) (list_all-weaken f g xs weaker parts.1)
 
+-- nothing stands above the first item
+
 above-first : (p : ℕ) (order : List ℕ) → above p (p ∷ order) ≡ []
 unfolding above
 above-first p order = cond-true (eqb p p) [] (p ∷ above p order) (eq-eqb p p refl)
 
-grounded-weaker : (p q : ℕ) (order : List ℕ) → stands_in p order ≡ false → (x : Source) → is_grounded (p ∷ order) (p ∷ above q order) x ≡ true → is_grounded order (above q order) x ≡ true
-grounded-weaker p q order fresh (Entry r) h = refl
-grounded-weaker p q order fresh (Item item place) h = ⊎_elim
+-- A source that is grounded in an order is so in what is behind its first item.
+
+grounded-later : (p q : ℕ) (order : List ℕ) → stands_in p order ≡ false → (x : Source) → is_grounded (p ∷ order) (p ∷ above q order) x ≡ true → is_grounded order (above q order) x ≡ true
+grounded-later p q order fresh (Entry r) h = refl
+grounded-later p q order fresh (Item item place) h = ⊎_elim
     (λ (there : stands_in item order ≡ true). ⊎_elim
-      (λ (out : not (stands_in item (p ∷ order)) ≡ true). absurd (both_ways (stands_in item (p ∷ order)) (not-true _ out) (stands_behind p item order there)))
-      (λ (up : stands_in item (p ∷ above q order) ≡ true). ⊎_elim
-        (λ (same : p ≡ item). absurd (both_ways (stands_in item order) (subst (λ x. stands_in x order ≡ false) same fresh) there))
-        (λ (rest : stands_in item (above q order) ≡ true). or_right (not (stands_in item order)) (stands_in item (above q order)) rest)
-        (stands-cases p item (above q order) up))
-      (or_cases (not (stands_in item (p ∷ order))) (stands_in item (p ∷ above q order)) h))
+    (λ (out : not (stands_in item (p ∷ order)) ≡ true). absurd (both_ways (stands_in item (p ∷ order)) (not-true _ out) (stands_behind p item order there)))
+    (λ (up : stands_in item (p ∷ above q order) ≡ true). ⊎_elim
+    (λ (same : p ≡ item). absurd (both_ways (stands_in item order) (subst (λ x. stands_in x order ≡ false) same fresh) there))
+    (λ (rest : stands_in item (above q order) ≡ true). or_right (not (stands_in item order)) (stands_in item (above q order)) rest)
+    (stands-cases p item (above q order) up))
+    (or_cases (not (stands_in item (p ∷ order))) (stands_in item (p ∷ above q order)) h))
     (λ (out : stands_in item order ≡ false). or_left (not (stands_in item order)) (stands_in item (above q order)) (not_from_false _ out))
     (cases_Bool (stands_in item order))
+
+-- So what is behind the first item of a grounded order is grounded.
 
 grounded-rest : (body : Body) (p : ℕ) (order : List ℕ) → IsOnce (p ∷ order) → Grounded body (p ∷ order) → Grounded body order
 grounded-rest body p order once h q there =
     let here : list_all (is_grounded (p ∷ order) (p ∷ above q order)) (body.sources q) ≡ true =
-        subst (λ up. list_all (is_grounded (p ∷ order) up) (body.sources q) ≡ true) (above-later p q order (differs p q order once.0 there)) (h q (stands_behind p q order there)) in
-    list_all-weaken (is_grounded (p ∷ order) (p ∷ above q order)) (is_grounded order (above q order)) (body.sources q) (grounded-weaker p q order once.0) here
+    subst (λ up. list_all (is_grounded (p ∷ order) up) (body.sources q) ≡ true) (above-later p q order (differs p q order once.0 there)) (h q (stands_behind p q order there)) in
+    list_all-weaken (is_grounded (p ∷ order) (p ∷ above q order)) (is_grounded order (above q order)) (body.sources q) (grounded-later p q order once.0) here
 
-grounded_weaker : (order up : List ℕ) (x : Source) → comes_from up x ≡ true → is_grounded order up x ≡ true
-grounded_weaker order up (Entry r) h = refl
-grounded_weaker order up (Item item place) h = or_right (not (stands_in item order)) (stands_in item up) h
+-- A source that stands above is grounded.
+
+grounded-above : (order up : List ℕ) (x : Source) → comes_from up x ≡ true → is_grounded order up x ≡ true
+grounded-above order up (Entry r) h = refl
+grounded-above order up (Item item place) h = or_right (not (stands_in item order)) (stands_in item up) h
 
 module _ (isa : Isa) (body : Body) (s : State) where
   -- The outputs of an item that isn't one of an order stay what they are.
@@ -166,7 +180,7 @@ module _ (isa : Isa) (body : Body) (s : State) where
   settled-touches values flow (p ∷ order) a h =
       let rest : times_of a (flow_from isa body s (flow_item isa body s flow p) order).touches ≡ times_of a (flow.touches ++ touches_of isa (body.instr p) (sources_values s flow.values (body.sources p))) + counted (accessed values a) everything order = settled-touches values (flow_item isa body s flow p) order a h.1 in
       let here : times_of a (flow.touches ++ touches_of isa (body.instr p) (sources_values s flow.values (body.sources p))) ≡ times_of a flow.touches + accessed values a p =
-          times_of-append a flow.touches (touches_of isa (body.instr p) (sources_values s flow.values (body.sources p))) ∙ ap (λ ins. times_of a flow.touches + times_of a (touches_of isa (body.instr p) ins)) h.0 in
+      times_of-append a flow.touches (touches_of isa (body.instr p) (sources_values s flow.values (body.sources p))) ∙ ap (λ ins. times_of a flow.touches + times_of a (touches_of isa (body.instr p) ins)) h.0 in
       rest ∙ ap (λ n. n + counted (accessed values a) everything order) here ∙ add_assoc (times_of a flow.touches) (accessed values a p) (counted (accessed values a) everything order)
 
   -- The outputs of the first item have the values that it gives.
@@ -185,12 +199,12 @@ module _ (isa : Isa) (body : Body) (s : State) where
   settled-values values flow [] p place h once there = absurd (stands-none p there)
   settled-values values flow (q ∷ order) p place h once there = ⊎_elim
       (λ (here : eqb q p ≡ true).
-        subst (λ x. output_value x place (flow_from isa body s (flow_item isa body s flow q) order).values ≡ slice_index (values_of isa (body.instr x) (taken values x) flow.memory) place) (eqb-true q p here) (settled-first values flow q order place h.0 once.0)
-        ∙ ap (λ xs. slice_index (values_of isa (body.instr p) (taken values p) (flow_from isa body s flow xs).memory) place) (sym (cond-true (eqb q p) [] (q ∷ above p order) here)))
+      subst (λ x. output_value x place (flow_from isa body s (flow_item isa body s flow q) order).values ≡ slice_index (values_of isa (body.instr x) (taken values x) flow.memory) place) (eqb-true q p here) (settled-first values flow q order place h.0 once.0)
+      ∙ ap (λ xs. slice_index (values_of isa (body.instr p) (taken values p) (flow_from isa body s flow xs).memory) place) (sym (cond-true (eqb q p) [] (q ∷ above p order) here)))
       (λ (other : eqb q p ≡ false).
-        let later : stands_in p order ≡ true = ⊎_elim (λ (same : q ≡ p). absurd (eqb-false q p other same)) (λ (rest : stands_in p order ≡ true). rest) (stands-cases q p order there) in
-        settled-values values (flow_item isa body s flow q) order p place h.1 once.1 later
-        ∙ ap (λ xs. slice_index (values_of isa (body.instr p) (taken values p) (flow_from isa body s flow xs).memory) place) (sym (cond-false (eqb q p) [] (q ∷ above p order) other)))
+      let later : stands_in p order ≡ true = ⊎_elim (λ (same : q ≡ p). absurd (eqb-false q p other same)) (λ (rest : stands_in p order ≡ true). rest) (stands-cases q p order there) in
+      settled-values values (flow_item isa body s flow q) order p place h.1 once.1 later
+      ∙ ap (λ xs. slice_index (values_of isa (body.instr p) (taken values p) (flow_from isa body s flow xs).memory) place) (sym (cond-false (eqb q p) [] (q ∷ above p order) other)))
       (cases_Bool (eqb q p))
 
   -- Accesses that were made stay.
@@ -206,13 +220,14 @@ module _ (isa : Isa) (body : Body) (s : State) where
   settled-among values flow [] p h there accesses = absurd (stands-none p there)
   settled-among values flow (q ∷ order) p h there accesses = ⊎_elim
       (λ (same : q ≡ p).
-        let first : IsAmong (touch_of isa (body.instr q) (taken values q)) (touches_of isa (body.instr q) (taken values q)) = subst (λ t. IsAmong (touch_of isa (body.instr q) (taken values q)) (cond t (touch_of isa (body.instr q) (taken values q) ∷ []) [])) (sym (subst (λ x. has_access (isa.info (body.instr x).form) ≡ true) (sym same) accesses)) (inl refl) in
-        let second : IsAmong (touch_of isa (body.instr q) (taken values q)) (touches_of isa (body.instr q) (sources_values s flow.values (body.sources q))) = subst (λ ins. IsAmong (touch_of isa (body.instr q) (taken values q)) (touches_of isa (body.instr q) ins)) (sym h.0) first in
-        let third : IsAmong (touch_of isa (body.instr q) (taken values q)) (flow_from isa body s (flow_item isa body s flow q) order).touches = touches-kept (flow_item isa body s flow q) order (touch_of isa (body.instr q) (taken values q)) (among-right (touch_of isa (body.instr q) (taken values q)) flow.touches (touches_of isa (body.instr q) (sources_values s flow.values (body.sources q))) second) in
-        subst (λ x. IsAmong (touch_of isa (body.instr x) (taken values x)) (flow_from isa body s (flow_item isa body s flow q) order).touches) same third)
+      let first : IsAmong (touch_of isa (body.instr q) (taken values q)) (touches_of isa (body.instr q) (taken values q)) = subst (λ t. IsAmong (touch_of isa (body.instr q) (taken values q)) (cond t (touch_of isa (body.instr q) (taken values q) ∷ []) [])) (sym (subst (λ x. has_access (isa.info (body.instr x).form) ≡ true) (sym same) accesses)) (inl refl) in
+      let second : IsAmong (touch_of isa (body.instr q) (taken values q)) (touches_of isa (body.instr q) (sources_values s flow.values (body.sources q))) = subst (λ ins. IsAmong (touch_of isa (body.instr q) (taken values q)) (touches_of isa (body.instr q) ins)) (sym h.0) first in
+      let third : IsAmong (touch_of isa (body.instr q) (taken values q)) (flow_from isa body s (flow_item isa body s flow q) order).touches = touches-kept (flow_item isa body s flow q) order (touch_of isa (body.instr q) (taken values q)) (among-right (touch_of isa (body.instr q) (taken values q)) flow.touches (touches_of isa (body.instr q) (sources_values s flow.values (body.sources q))) second) in
+      subst (λ x. IsAmong (touch_of isa (body.instr x) (taken values x)) (flow_from isa body s (flow_item isa body s flow q) order).touches) same third)
       (λ (rest : stands_in p order ≡ true). settled-among values (flow_item isa body s flow q) order p h.1 rest accesses)
       (stands-cases q p order there)
 
+  -- where the flow of a body begins
   abbrev start : Flow
   start = record { values = []; memory = s.memory; touches = [] }
 
@@ -228,9 +243,11 @@ module _ (isa : Isa) (body : Body) (s : State) where
   abbrev pub access_count : Touch → ℕ → ℕ
   access_count a p = accessed (flow_of isa body s).values a p
 
+  -- A sound body is grounded.
   grounded : IsSound isa body → Grounded body body.order
-  grounded sound p there = list_all-weaken (comes_from (above p body.order)) (is_grounded body.order (above p body.order)) (body.sources p) (grounded_weaker body.order (above p body.order)) (sound.sources_above p there)
+  grounded sound p there = list_all-weaken (comes_from (above p body.order)) (is_grounded body.order (above p body.order)) (body.sources p) (grounded-above body.order (above p body.order)) (sound.sources_above p there)
 
+  -- In the flow of a sound body, the operands' values are final as they are taken.
   whole : IsSound isa body → Settled (flow_of isa body s).values start body.order
   whole sound = settled start body.order sound.once (grounded sound)
 
@@ -249,6 +266,7 @@ module _ (isa : Isa) (body : Body) (s : State) where
   pub found_by : ℕ → FinMap nat_cmp ℕ
   found_by c = (flow_from isa body s start (above c body.order)).memory
 
+  -- its bytes: what all items above leave
   pub found-bytes : IsSound isa body → (c at : ℕ) → byte (found_by c) at ≡ folded (left_at at) everything (byte s.memory at) (above c body.order)
   unfolding found_by
   found-bytes sound c at = settled-bytes (flow_of isa body s).values start (above c body.order) at (settled-above (flow_of isa body s).values start body.order c (whole sound))

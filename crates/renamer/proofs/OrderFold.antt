@@ -1,9 +1,9 @@
 -- What is gathered over the placed items of an order: the byte that they leave, and how often they access.
-use Rattle.std.proofs.Common.{◌≡◌, ℕ, zero, suc, ◌+◌, Bool, true, false, not, ◌&&◌, ◌||◌, cond, eqb, ◌⊎◌, List, [], ◌∷◌, ◌++◌, Option, Some, None, unwrap_or, refl, sym, ◌∙◌, ap, ap₂, subst, inl, inr, ⊎_elim, true≢false, arith}
+use Rattle.std.proofs.Common.{◌≡◌, ℕ, ◌+◌, Bool, true, false, cond, eqb, ◌⊎◌, List, [], ◌∷◌, ◌++◌, Option, Some, None, unwrap_or, refl, sym, ◌∙◌, ap, ap₂, subst, inl, ⊎_elim, arith}
 use Rattle.std.proofs.lemmas.Bool.{cases_Bool, ne_eqb, cond-true, cond-false}
 use Rattle.sl_model.specs.Body.{above, stands_in}
 use Rattle.renamer.specs.Faithful.{IsOnce}
-use Rattle.renamer.proofs.OrderLists.{below, stands_first, stands_behind, cut_at_item, above-stands, above-not_itself, below-stands, below-not_itself}
+use Rattle.renamer.proofs.OrderLists.{below, stands_first, stands_behind, cut_at_item, above-not_itself, below-not_itself}
 
 -- The last value that the items of an order which pass a test leave, where each may leave one.
 unfoldable pub folded : (ℕ → Option ℕ) → (ℕ → Bool) → ℕ → List ℕ → ℕ
@@ -15,8 +15,12 @@ unfoldable pub counted : (ℕ → ℕ) → (ℕ → Bool) → List ℕ → ℕ
 counted weight test [] = 0
 counted weight test (p ∷ order) = cond (test p) (weight p) 0 + counted weight test order
 
+-- the test that each item passes
+
 abbrev pub everything : ℕ → Bool
 everything p = true
+
+-- two choices between equal numbers
 
 either_way : (s t : Bool) (old new : ℕ) → new ≡ old → cond s new old ≡ cond t new old
 either_way true true old new e = refl
@@ -27,6 +31,8 @@ either_way false true old new e = sym e
 -- An item above another isn't it, nor is one below it.
 not_above : (c q : ℕ) (order : List ℕ) → stands_in q (above c order) ≡ true → eqb c q ≡ false
 not_above c q order h = ne_eqb c q (λ (same : c ≡ q). above-not_itself c order (subst (λ x. stands_in x (above c order) ≡ true) (sym same) h))
+
+-- and the same below
 
 not_below : (c q : ℕ) (order : List ℕ) → IsOnce order → stands_in q (below c order) ≡ true → eqb c q ≡ false
 not_below c q order once h = ne_eqb c q (λ (same : c ≡ q). below-not_itself c order once (subst (λ x. stands_in x (below c order) ≡ true) (sym same) h))
@@ -44,9 +50,9 @@ module _ (leaves : ℕ → Option ℕ) where
   folded-same test other old [] same = refl
   folded-same test other old (p ∷ xs) same =
       let here : cond (test p) (unwrap_or (leaves p) old) old ≡ cond (other p) (unwrap_or (leaves p) old) old = ⊎_elim
-        (λ (e : test p ≡ other p). ap (λ t. cond t (unwrap_or (leaves p) old) old) e)
-        (λ (e : leaves p ≡ None). either_way (test p) (other p) old (unwrap_or (leaves p) old) (ap (λ o. unwrap_or o old) e))
-        (same p (stands_first p xs)) in
+      (λ (e : test p ≡ other p). ap (λ t. cond t (unwrap_or (leaves p) old) old) e)
+      (λ (e : leaves p ≡ None). either_way (test p) (other p) old (unwrap_or (leaves p) old) (ap (λ o. unwrap_or o old) e))
+      (same p (stands_first p xs)) in
       folded-same test other (cond (test p) (unwrap_or (leaves p) old) old) xs (λ q h. same q (stands_behind p q xs h)) ∙ ap (λ v. folded leaves other v xs) here
 
   -- where no item that passes leaves a value
@@ -55,9 +61,9 @@ module _ (leaves : ℕ → Option ℕ) where
   folded-none test old [] none = refl
   folded-none test old (p ∷ xs) none =
       let here : cond (test p) (unwrap_or (leaves p) old) old ≡ old = ⊎_elim
-        (λ (passes : test p ≡ true). cond-true (test p) (unwrap_or (leaves p) old) old passes ∙ ap (λ o. unwrap_or o old) (none p (stands_first p xs) passes))
-        (λ (fails : test p ≡ false). cond-false (test p) (unwrap_or (leaves p) old) old fails)
-        (cases_Bool (test p)) in
+      (λ (passes : test p ≡ true). cond-true (test p) (unwrap_or (leaves p) old) old passes ∙ ap (λ o. unwrap_or o old) (none p (stands_first p xs) passes))
+      (λ (fails : test p ≡ false). cond-false (test p) (unwrap_or (leaves p) old) old fails)
+      (cases_Bool (test p)) in
       ap (λ v. folded leaves test v xs) here ∙ folded-none test old xs (λ q h. none q (stands_behind p q xs h))
 
   -- Where all items pass, it is what all items leave.
@@ -93,14 +99,14 @@ module _ (leaves : ℕ → Option ℕ) where
   folded-placed test after old c order once here fresh placed others down =
       let up_same : folded leaves after old (above c order) ≡ folded leaves test old (above c order) = folded-same after test old (above c order) (λ q h. inl (others q (not_above c q order h))) in
       let left : folded leaves after old order ≡ folded leaves after (unwrap_or (leaves c) (folded leaves test old (above c order))) (below c order) =
-          ap (folded leaves after old) (cut_at_item c order here)
-          ∙ folded-append after old (above c order) (c ∷ below c order)
-          ∙ ap (λ v. folded leaves after v (below c order)) (cond-true (after c) (unwrap_or (leaves c) (folded leaves after old (above c order))) (folded leaves after old (above c order)) placed)
-          ∙ ap (λ v. folded leaves after (unwrap_or (leaves c) v) (below c order)) up_same in
+      ap (folded leaves after old) (cut_at_item c order here)
+      ∙ folded-append after old (above c order) (c ∷ below c order)
+      ∙ ap (λ v. folded leaves after v (below c order)) (cond-true (after c) (unwrap_or (leaves c) (folded leaves after old (above c order))) (folded leaves after old (above c order)) placed)
+      ∙ ap (λ v. folded leaves after (unwrap_or (leaves c) v) (below c order)) up_same in
       let right : folded leaves test old order ≡ folded leaves test (folded leaves test old (above c order)) (below c order) =
-          ap (folded leaves test old) (cut_at_item c order here)
-          ∙ folded-append test old (above c order) (c ∷ below c order)
-          ∙ ap (λ v. folded leaves test v (below c order)) (cond-false (test c) (unwrap_or (leaves c) (folded leaves test old (above c order))) (folded leaves test old (above c order)) fresh) in
+      ap (folded leaves test old) (cut_at_item c order here)
+      ∙ folded-append test old (above c order) (c ∷ below c order)
+      ∙ ap (λ v. folded leaves test v (below c order)) (cond-false (test c) (unwrap_or (leaves c) (folded leaves test old (above c order))) (folded leaves test old (above c order)) fresh) in
       left
       ∙ folded-same after test (unwrap_or (leaves c) (folded leaves test old (above c order))) (below c order) (λ q h. inl (others q (not_below c q order once h)))
       ∙ folded-after test (leaves c) (folded leaves test old (above c order)) (below c order) down

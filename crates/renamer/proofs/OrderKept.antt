@@ -1,8 +1,5 @@
 -- Registers that aren't written keep their values.
-use Rattle.std.proofs.Common.{◌≡◌, ℕ, ◌+◌, Bool, true, false, cond, ◌||◌, List, [], ◌∷◌, Option, Some, None, is_some, refl, sym, ◌∙◌, ap, subst, ⊎_elim, true≢false}
-use Rattle.std.specs.List.{list_any}
-use Rattle.std.specs.Ordering.{nat_cmp}
-use Rattle.std.specs.FinMap.{FinMap}
+use Rattle.std.proofs.Common.{◌≡◌, ℕ, ◌+◌, true, false, cond, List, [], ◌∷◌, Some, is_some, refl, ◌∙◌, subst, ⊎_elim, true≢false}
 use Rattle.std.proofs.lemmas.Bool.{cases_Bool, or_parts}
 use Rattle.sl_model.specs.declared.register.Reg.{Reg}
 use Rattle.sl_model.specs.declared.instruction.Instr.{Instr}
@@ -24,11 +21,11 @@ write_all-kept k [] values s r h = refl
 write_all-kept k (q ∷ regs) [] s r h = refl
 write_all-kept k (q ∷ regs) (value ∷ values) s r h = ⊎_elim
     (λ (same : same_reg q r ≡ true).
-      let none : true ≡ false = subst (λ t. is_some (cond t (Some k) (place_from (k + 1) r regs)) ≡ false) same h in
-      absurd (true≢false none))
+    let none : true ≡ false = subst (λ t. is_some (cond t (Some k) (place_from (k + 1) r regs)) ≡ false) same h in
+    absurd (true≢false none))
     (λ (other : same_reg q r ≡ false).
-      write_all-kept (k + 1) regs values (write q value s) r (subst (λ t. is_some (cond t (Some k) (place_from (k + 1) r regs)) ≡ false) other h)
-      ∙ read-write_other s q r value other)
+    write_all-kept (k + 1) regs values (write q value s) r (subst (λ t. is_some (cond t (Some k) (place_from (k + 1) r regs)) ≡ false) other h)
+    ∙ read-write_other s q r value other)
     (cases_Bool (same_reg q r))
 
 -- An instruction keeps the registers that aren't its outputs.

@@ -1,11 +1,9 @@
 -- The run of a faithful order, by induction over its choices.
-use Rattle.std.proofs.Common.{◌≡◌, ℕ, ◌+◌, Bool, true, false, ◌&&◌, ◌||◌, eqb, List, [], ◌∷◌, ◌++◌, reverse, refl, sym, ◌∙◌, ap, ap₂, subst, ⊎_elim, true≢false, append_assoc, append-nil, add_assoc, add_comm, arith}
-use Rattle.std.specs.List.{list_all}
-use Rattle.std.proofs.lemmas.Bool.{or_cases, or_left, eqb-true}
+use Rattle.std.proofs.Common.{◌≡◌, ℕ, ◌+◌, true, false, eqb, List, [], ◌∷◌, ◌++◌, reverse, refl, sym, ◌∙◌, ap, subst, ⊎_elim, true≢false, arith}
+use Rattle.std.proofs.lemmas.Bool.{or_cases, eqb-true}
 use Rattle.sl_model.specs.declared.register.Reg.{Reg}
-use Rattle.sl_model.specs.declared.instruction.Instr.{Instr}
 use Rattle.sl_model.specs.declared.schedule.Choice.{Choice}
-use Rattle.sl_model.specs.State.{State, read, byte}
+use Rattle.sl_model.specs.State.{State, byte}
 use Rattle.sl_model.specs.Isa.{Isa}
 use Rattle.sl_model.specs.Exec.{Touch, exec, run, touches, touches_of, operand_values}
 use Rattle.sl_model.specs.Lawful.{IsLawful}
@@ -14,7 +12,7 @@ use Rattle.sl_model.specs.Body.{Body, flow_of, source_value, is_placed, held, ap
 use Rattle.renamer.specs.Faithful.{IsSound, Carries}
 use Rattle.renamer.proofs.OrderLists.{list_all-at}
 use Rattle.renamer.proofs.OrderFold.{everything, counted, folded-none, folded-all, counted-all, counted-none, counted-placed}
-use Rattle.renamer.proofs.OrderFlow.{operands_of, left_at, access_count, flow-bytes, flow-touches, times_of-append}
+use Rattle.renamer.proofs.OrderFlow.{left_at, access_count, flow-bytes, flow-touches, times_of-append}
 use Rattle.renamer.proofs.OrderStep.{Reached, placed-here, placed-before, placed-others, step-operands, step-reached}
 
 -- choices put before those made so far, one after the other
@@ -41,6 +39,8 @@ chosen-onto (c ∷ choices) done q h = ⊎_elim
     (λ (here : eqb c.item q ≡ true). placed-onto choices (c ∷ done) q (subst (λ x. is_placed (c ∷ done) x ≡ true) (eqb-true c.item q here) (placed-here c done)))
     (λ (rest : is_placed choices q ≡ true). chosen-onto choices (c ∷ done) q rest)
     (or_cases (eqb c.item q) (is_placed choices q) h)
+
+-- a sum in another order
 
 regrouped : (a b c : ℕ) → (a + b) + c ≡ b + (a + c)
 regrouped a b c = omega arith
@@ -69,14 +69,14 @@ module _ (isa : Isa) (body : Body) (s : State) (lawful : IsLawful isa) (sound : 
   run-touches a done [] t reached faithful = omega arith
   run-touches a done (c ∷ choices) t reached faithful =
       let rest : times_of a (touches isa (applied_from body (c ∷ done) choices) (exec isa (applied_item body done c) t)) + counted (access_count isa body s a) (is_placed (c ∷ done)) body.order ≡ counted (access_count isa body s a) (is_placed (onto choices (c ∷ done))) body.order =
-          run-touches a (c ∷ done) choices (exec isa (applied_item body done c) t) (step-reached isa body s lawful sound tags done t c reached faithful.0) faithful.1 in
+      run-touches a (c ∷ done) choices (exec isa (applied_item body done c) t) (step-reached isa body s lawful sound tags done t c reached faithful.0) faithful.1 in
       let here : times_of a (touches_of isa (applied_item body done c) (operand_values (applied_item body done c) t)) ≡ access_count isa body s a c.item =
-          ap (λ ins. times_of a (touches_of isa (body.instr c.item) ins)) (step-operands isa body s lawful sound tags done t c reached faithful.0) in
+      ap (λ ins. times_of a (touches_of isa (body.instr c.item) ins)) (step-operands isa body s lawful sound tags done t c reached faithful.0) in
       let split : times_of a (touches_of isa (applied_item body done c) (operand_values (applied_item body done c) t) ++ touches isa (applied_from body (c ∷ done) choices) (exec isa (applied_item body done c) t))
-            ≡ times_of a (touches_of isa (applied_item body done c) (operand_values (applied_item body done c) t)) + times_of a (touches isa (applied_from body (c ∷ done) choices) (exec isa (applied_item body done c) t)) =
-          times_of-append a (touches_of isa (applied_item body done c) (operand_values (applied_item body done c) t)) (touches isa (applied_from body (c ∷ done) choices) (exec isa (applied_item body done c) t)) in
+      ≡ times_of a (touches_of isa (applied_item body done c) (operand_values (applied_item body done c) t)) + times_of a (touches isa (applied_from body (c ∷ done) choices) (exec isa (applied_item body done c) t)) =
+      times_of-append a (touches_of isa (applied_item body done c) (operand_values (applied_item body done c) t)) (touches isa (applied_from body (c ∷ done) choices) (exec isa (applied_item body done c) t)) in
       let more : counted (access_count isa body s a) (is_placed (c ∷ done)) body.order ≡ access_count isa body s a c.item + counted (access_count isa body s a) (is_placed done) body.order =
-          counted-placed (access_count isa body s a) (is_placed done) (is_placed (c ∷ done)) c.item body.order sound.once faithful.0.known faithful.0.fresh (placed-here c done) (placed-others c done) in
+      counted-placed (access_count isa body s a) (is_placed done) (is_placed (c ∷ done)) c.item body.order sound.once faithful.0.known faithful.0.fresh (placed-here c done) (placed-others c done) in
       ap (λ n. n + counted (access_count isa body s a) (is_placed done) body.order) (split ∙ ap (λ n. n + times_of a (touches isa (applied_from body (c ∷ done) choices) (exec isa (applied_item body done c) t))) here)
       ∙ regrouped (access_count isa body s a c.item) (times_of a (touches isa (applied_from body (c ∷ done) choices) (exec isa (applied_item body done c) t))) (counted (access_count isa body s a) (is_placed done) body.order)
       ∙ ap (λ n. times_of a (touches isa (applied_from body (c ∷ done) choices) (exec isa (applied_item body done c) t)) + n) (sym more)
@@ -92,9 +92,9 @@ module _ (isa : Isa) (body : Body) (s : State) (lawful : IsLawful isa) (sound : 
         registers = λ (r : Reg). reached.registers r ∙ ap (λ choices. source_value s (flow_of isa body s).values (held choices r)) (onto-reverse schedule);
         bytes = λ (at : ℕ). reached.bytes at ∙ folded-all (left_at isa body s at) (is_placed (onto schedule [])) (byte s.memory at) body.order all ∙ sym (flow-bytes isa body s sound at);
         access_counts = λ (a : Touch).
-          let none : counted (access_count isa body s a) (is_placed []) body.order ≡ 0 = counted-none (access_count isa body s a) body.order in
-          let run_all : times_of a (touches isa (applied body schedule) s) + counted (access_count isa body s a) (is_placed []) body.order ≡ counted (access_count isa body s a) (is_placed (onto schedule [])) body.order = run-touches a [] schedule s reached-start faithful in
-          let whole : counted (access_count isa body s a) (is_placed (onto schedule [])) body.order ≡ counted (access_count isa body s a) everything body.order = counted-all (access_count isa body s a) (is_placed (onto schedule [])) body.order all in
-          let flow : times_of a (flow_of isa body s).touches ≡ counted (access_count isa body s a) everything body.order = flow-touches isa body s sound a in
-          omega arith;
+            let none : counted (access_count isa body s a) (is_placed []) body.order ≡ 0 = counted-none (access_count isa body s a) body.order in
+            let run_all : times_of a (touches isa (applied body schedule) s) + counted (access_count isa body s a) (is_placed []) body.order ≡ counted (access_count isa body s a) (is_placed (onto schedule [])) body.order = run-touches a [] schedule s reached-start faithful in
+            let whole : counted (access_count isa body s a) (is_placed (onto schedule [])) body.order ≡ counted (access_count isa body s a) everything body.order = counted-all (access_count isa body s a) (is_placed (onto schedule [])) body.order all in
+            let flow : times_of a (flow_of isa body s).touches ≡ counted (access_count isa body s a) everything body.order = flow-touches isa body s sound a in
+            omega arith;
       }

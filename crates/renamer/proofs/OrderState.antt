@@ -1,12 +1,12 @@
 -- The laws of registers and memory: what is read after a write.
-use Rattle.std.proofs.Common.{◌≡◌, ℕ, zero, suc, ◌+◌, ◌%◌, ◌<◌, ◌≤◌, Bool, true, false, not, ◌&&◌, ◌||◌, ◌==◌, cond, eqb, List, [], ◌∷◌, length, Option, Some, None, unwrap_or, if◌then◌else◌, refl, sym, ◌∙◌, ap, ap₂, subst, ⊎_elim, arith, slice_index, get_or, add-one, add-zero, true≢false}
+use Rattle.std.proofs.Common.{◌≡◌, ℕ, zero, suc, ◌+◌, ◌%◌, ◌<◌, Bool, true, false, not, ◌&&◌, ◌==◌, cond, eqb, List, [], ◌∷◌, length, Option, Some, None, unwrap_or, refl, sym, ◌∙◌, ap, ap₂, subst, ⊎_elim, arith, slice_index, add-one, add-zero, true≢false}
 use Rattle.std.specs.Ordering.{nat_cmp, is_eq, eq_by_cmp}
 use Rattle.std.specs.FinMap.{FinMap, get, insert, get-insert, slice_cmp-IsAntisymmetric, nat_cmp-IsAntisymmetric}
 use Rattle.std.specs.Cmp.Lexicographic.{slice_cmp, nat_list_cmp_total}
 use Rattle.std.specs.Cmp.{nat_cmp_total, tied_itself, Equal-is}
 use Rattle.std.specs.List.{list_any}
 use Rattle.std.specs.Option.{is_some, option_map}
-use Rattle.std.proofs.lemmas.Bool.{cases_Bool, and_parts, or_parts, not-true, both_ways, false_from_ne_true, eqb-true, eqb-false, eq-eqb, cond-true, cond-false, ne_eqb}
+use Rattle.std.proofs.lemmas.Bool.{cases_Bool, and_parts, or_parts, not-true, both_ways, false_from_ne_true, eqb-true, eqb-false, eq-eqb, cond-true, cond-false}
 use Rattle.sl_model.specs.declared.register.Bank.{Bank}
 use Rattle.sl_model.specs.declared.register.Bank.TheVariants.{General, Vector, Flags, Stack}
 use Rattle.sl_model.specs.declared.register.Reg.{Reg}
@@ -15,11 +15,15 @@ use Rattle.sl_model.specs.Source.{place_from}
 use Rattle.sl_model.specs.Body.{all_differ}
 use Rattle.sl_model.specs.State.{State, reg_key, read, write, byte, put, is_zero, write_all, load, store}
 
+-- equal truth values
+
 same_bool-true : (a b : Bool) → same_bool a b ≡ true → a ≡ b
 same_bool-true true true e = refl
 same_bool-true false false e = refl
 same_bool-true true false e = cc
 same_bool-true false true e = cc
+
+-- banks with one number are equal
 
 same_bank : (a b : Bank) → bank_number a ≡ bank_number b → a ≡ b
 same_bank General General e = refl
@@ -42,13 +46,15 @@ same_bank Stack Flags e = absurd (omega arith)
 -- two names of one register are equal
 pub same_reg-true : (a b : Reg) → same_reg a b ≡ true → a ≡ b
 unfolding same_reg
-same_reg-true a b e = 
+same_reg-true a b e =
     let parts = and_parts (bank_number a.bank == bank_number b.bank) (same_bool a.symbolic b.symbolic && (a.number == b.number)) e in
     let rest = and_parts (same_bool a.symbolic b.symbolic) (a.number == b.number) parts.1 in
     let bank = same_bank a.bank b.bank (eqb-true _ _ parts.0) in
     let symbolic = same_bool-true a.symbolic b.symbolic rest.0 in
     let number = eqb-true _ _ rest.1 in
     λ i. record { bank = bank i; symbolic = symbolic i; number = number i }
+
+-- a truth value is itself
 
 same_bool-refl : (a : Bool) → same_bool a a ≡ true
 same_bool-refl true = refl
@@ -59,8 +65,12 @@ pub same_reg-refl : (a : Reg) → same_reg a a ≡ true
 unfolding same_reg
 same_reg-refl a = rw (eq-eqb (bank_number a.bank) (bank_number a.bank) refl, same_bool-refl a.symbolic, eq-eqb a.number a.number refl) refl
 
+-- only equal addresses tie
+
 nat_key_same : (a b : ℕ) → eq_by_cmp nat_cmp a b ≡ true → a ≡ b
 nat_key_same a b e = nat_cmp-IsAntisymmetric a b ((Equal-is (nat_cmp a b)).0 e)
+
+-- only equal keys of registers tie
 
 key_same : (a b : List ℕ) → eq_by_cmp (slice_cmp nat_cmp) a b ≡ true → a ≡ b
 key_same a b e = slice_cmp-IsAntisymmetric nat_cmp-IsAntisymmetric a b ((Equal-is (slice_cmp nat_cmp a b)).0 e)
@@ -87,6 +97,8 @@ read-write_same s r value written =
     let found : get (insert s.regs (reg_key r) value) (reg_key r) ≡ Some value = get-insert nat_list_cmp_total s.regs (reg_key r) value (reg_key r) ∙ cond-true _ (Some value) (get s.regs (reg_key r)) tied in
     cond-false (is_zero r) 0 (unwrap_or (get (insert s.regs (reg_key r) value) (reg_key r)) 0) written ∙ ap (λ o. unwrap_or o 0) found
 
+-- the middle number of a key tells whether the register is symbolic
+
 same_symbolic : (a b : Bool) → ◌≡◌ {A = ℕ} (cond a 1 0) (cond b 1 0) → a ≡ b
 same_symbolic true true e = refl
 same_symbolic false false e = refl
@@ -106,7 +118,7 @@ pub read-write_other : (s : State) (r q : Reg) (value : ℕ) → same_reg r q �
 unfolding read write
 read-write_other s r q value other =
     let untied : eq_by_cmp (slice_cmp nat_cmp) (reg_key q) (reg_key r) ≡ false = false_from_ne_true _ (λ (tied : eq_by_cmp (slice_cmp nat_cmp) (reg_key q) (reg_key r) ≡ true).
-      both_ways (same_reg r q) other (subst (λ x. same_reg r x ≡ true) (sym (same_key q r (key_same (reg_key q) (reg_key r) tied))) (same_reg-refl r))) in
+    both_ways (same_reg r q) other (subst (λ x. same_reg r x ≡ true) (sym (same_key q r (key_same (reg_key q) (reg_key r) tied))) (same_reg-refl r))) in
     let found : get (insert s.regs (reg_key r) value) (reg_key q) ≡ get s.regs (reg_key q) = get-insert nat_list_cmp_total s.regs (reg_key r) value (reg_key q) ∙ cond-false _ (Some value) (get s.regs (reg_key q)) untied in
     ap (λ o. cond (is_zero q) 0 (unwrap_or o 0)) found
 
@@ -115,9 +127,13 @@ abbrev pub landed : Option ℕ → List ℕ → ℕ → ℕ
 landed None values old = old
 landed (Some place) values old = slice_index values place
 
+-- the same behind one more value
+
 landed-next : (o : Option ℕ) (value : ℕ) (values : List ℕ) (old : ℕ) → landed (option_map (λ j. j + 1) o) (value ∷ values) old ≡ landed o values old
 landed-next None value values old = refl
 landed-next (Some j) value values old = ap (λ n. slice_index (value ∷ values) n) (add-one j)
+
+-- places counted from one more are one more
 
 place_from-next : (k : ℕ) (r : Reg) (regs : List Reg) → place_from (k + 1) r regs ≡ option_map (λ j. j + 1) (place_from k r regs)
 unfolding place_from
@@ -126,6 +142,8 @@ place_from-next k r (q ∷ regs) = ⊎_elim
     (λ (same : same_reg q r ≡ true). rw same refl)
     (λ (other : same_reg q r ≡ false). rw other (place_from-next (k + 1) r regs))
     (cases_Bool (same_reg q r))
+
+-- There is no place where none is found.
 
 no_place : (o : Option ℕ) → is_some o ≡ false → o ≡ None
 no_place None e = refl
@@ -142,17 +160,17 @@ read-write_all (q ∷ regs) (value ∷ values) s r writable differ sizes =
     let rest : read (write_all regs values (write q value s)) r ≡ landed (place_from 0 r regs) values (read (write q value s) r) = read-write_all regs values (write q value s) r zeros.1 parts.1 (omega arith) in
     ⊎_elim
     (λ (same : same_reg q r ≡ true).
-      let is : q ≡ r = same_reg-true q r same in
-      let none : place_from 0 q regs ≡ None = no_place (place_from 0 q regs) (not-true _ parts.0) in
-      let nowhere : place_from 0 r regs ≡ None = subst (λ x. place_from 0 x regs ≡ None) is none in
-      let here : read (write q value s) r ≡ value = subst (λ x. read (write q value s) x ≡ value) is (read-write_same s q value zeros.0) in
-      let goal : landed (cond (same_reg q r) (Some 0) (place_from 1 r regs)) (value ∷ values) (read s r) ≡ value = ap (λ o. landed o (value ∷ values) (read s r)) (cond-true (same_reg q r) (Some 0) (place_from 1 r regs) same) in
-      rest ∙ ap (λ o. landed o values (read (write q value s) r)) nowhere ∙ here ∙ sym goal)
+    let is : q ≡ r = same_reg-true q r same in
+    let none : place_from 0 q regs ≡ None = no_place (place_from 0 q regs) (not-true _ parts.0) in
+    let nowhere : place_from 0 r regs ≡ None = subst (λ x. place_from 0 x regs ≡ None) is none in
+    let here : read (write q value s) r ≡ value = subst (λ x. read (write q value s) x ≡ value) is (read-write_same s q value zeros.0) in
+    let goal : landed (cond (same_reg q r) (Some 0) (place_from 1 r regs)) (value ∷ values) (read s r) ≡ value = ap (λ o. landed o (value ∷ values) (read s r)) (cond-true (same_reg q r) (Some 0) (place_from 1 r regs) same) in
+    rest ∙ ap (λ o. landed o values (read (write q value s) r)) nowhere ∙ here ∙ sym goal)
     (λ (other : same_reg q r ≡ false).
-      let there : read (write q value s) r ≡ read s r = read-write_other s q r value other in
-      let goal : landed (cond (same_reg q r) (Some 0) (place_from 1 r regs)) (value ∷ values) (read s r) ≡ landed (place_from 0 r regs) values (read s r) =
-          ap (λ o. landed o (value ∷ values) (read s r)) (cond-false (same_reg q r) (Some 0) (place_from 1 r regs) other ∙ place_from-next 0 r regs) ∙ landed-next (place_from 0 r regs) value values (read s r) in
-      rest ∙ ap (λ v. landed (place_from 0 r regs) values v) there ∙ sym goal)
+    let there : read (write q value s) r ≡ read s r = read-write_other s q r value other in
+    let goal : landed (cond (same_reg q r) (Some 0) (place_from 1 r regs)) (value ∷ values) (read s r) ≡ landed (place_from 0 r regs) values (read s r) =
+    ap (λ o. landed o (value ∷ values) (read s r)) (cond-false (same_reg q r) (Some 0) (place_from 1 r regs) other ∙ place_from-next 0 r regs) ∙ landed-next (place_from 0 r regs) value values (read s r) in
+    rest ∙ ap (λ v. landed (place_from 0 r regs) values v) there ∙ sym goal)
     (cases_Bool (same_reg q r))
 
 -- Writing registers leaves memory.
@@ -171,6 +189,8 @@ otherwise (Some v) o = Some v
 unfoldable pub stored_at : ℕ → ℕ → List ℕ → ℕ → Option ℕ
 stored_at space address [] at = None
 stored_at space address (b ∷ bytes) at = otherwise (stored_at space (address + 1) bytes at) (cond (eqb (address % space) at) (Some b) None)
+
+-- a byte after the first of some bytes and the rest are stored
 
 byte-store_step : (o : Option ℕ) (space address b at : ℕ) (memory : FinMap nat_cmp ℕ) → unwrap_or o (byte (put (address % space) b memory) at) ≡ unwrap_or (otherwise o (cond (eqb (address % space) at) (Some b) None)) (byte memory at)
 byte-store_step (Some v) space address b at memory = refl
@@ -192,9 +212,11 @@ load-same space m n address zero same = refl
 load-same space m n address (suc size) same =
     let here : byte m (address % space) ≡ byte n (address % space) = subst (λ x. byte m (x % space) ≡ byte n (x % space)) (add-zero address) (same 0 (omega arith)) in
     let rest : load space m (address + 1) size ≡ load space n (address + 1) size = load-same space m n (address + 1) size (λ j below.
-        let shifted : address + (j + 1) ≡ address + 1 + j = omega arith in
-        subst (λ x. byte m (x % space) ≡ byte n (x % space)) shifted (same (j + 1) (omega arith))) in
+    let shifted : address + (j + 1) ≡ address + 1 + j = omega arith in
+    subst (λ x. byte m (x % space) ≡ byte n (x % space)) shifted (same (j + 1) (omega arith))) in
     ap₂ (λ x xs. x ∷ xs) here rest
+
+-- as many bytes are loaded as asked for
 
 pub length-load : (space : ℕ) (memory : FinMap nat_cmp ℕ) (address size : ℕ) → length (load space memory address size) ≡ size
 unfolding load
@@ -207,6 +229,8 @@ pub record IsWithin (space address size at : ℕ) : Type 0 where
   pub below : place < size
   pub is : (address + place) % space ≡ at
 
+-- where a byte goes, with one more byte before the rest
+
 stored_at_step : (o : Option ℕ) (space address b at size : ℕ) → (is_some o ≡ true → IsWithin space (address + 1) size at) → is_some (otherwise o (cond (eqb (address % space) at) (Some b) None)) ≡ true → IsWithin space address (suc size) at
 stored_at_step (Some v) space address b at size rest found =
     let w : IsWithin space (address + 1) size at = rest refl in
@@ -214,8 +238,8 @@ stored_at_step (Some v) space address b at size rest found =
 stored_at_step None space address b at size rest found = ⊎_elim
     (λ (same : eqb (address % space) at ≡ true). record { place = 0; below = omega arith; is = ap (λ x. x % space) (add-zero address) ∙ eqb-true _ _ same })
     (λ (other : eqb (address % space) at ≡ false).
-      let none : false ≡ true = subst (λ t. is_some (cond t (Some b) None) ≡ true) other found in
-      absurd (true≢false (sym none)))
+    let none : false ≡ true = subst (λ t. is_some (cond t (Some b) None) ≡ true) other found in
+    absurd (true≢false (sym none)))
     (cases_Bool (eqb (address % space) at))
 
 -- A byte that was stored at an address goes there from a place of the store.
