@@ -1,15 +1,21 @@
 -- What a problem needs so that its legal schedules compute what its items compute.
-use Rattle.std.specs.Prelude.{◌≡◌, Bool, true, ◌&&◌, not, nat_lt, map, [], ◌∷◌, List, length}
+use Rattle.std.specs.Prelude.{ℕ, ◌≡◌, ◌<◌, Bool, true, ◌&&◌, not, nat_lt, map, [], ◌∷◌, List, length}
 use Rattle.std.specs.List.{list_all, list_any}
 use Rattle.sl_model.specs.declared.register.Reg.{Reg}
+use Rattle.sl_model.specs.declared.instruction.Instr.{Instr}
 use Rattle.sl_model.specs.declared.schedule.Source.{Source}
 use Rattle.sl_model.specs.declared.schedule.Source.TheVariants.{Entry, Item}
 use Rattle.sl_model.specs.Register.{same_reg}
 use Rattle.sl_model.specs.Source.{outputs, item_at}
 use Rattle.sl_model.specs.Isa.{Isa}
 use Rattle.sl_model.specs.Body.{same_source, stands_in, all_differ}
+use Rattle.sl_model.specs.Lawful.{IsValid}
 use Rattle.sl_model.specs.Legal.{Problem, body_of}
 use Rattle.renamer.specs.Faithful.{IsSound}
+
+-- All items of a list are instructions of the set.
+abbrev pub AreValid : Isa → List Instr → Type 0
+AreValid isa items = (p : ℕ) → p < length items → IsValid isa (item_at items p)
 
 -- Is a value that must stand in a register at the end an output of an item, or what that register held before?
 abbrev pub is_made : Problem → Reg × Source → Bool
