@@ -18,3 +18,4 @@ pub mod StraightNumbers
 pub mod StraightSets
 pub mod StraightPosed
 pub mod StraightLeaves
+pub mod Adding

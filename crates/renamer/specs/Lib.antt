@@ -1,3 +1,4 @@
+pub mod Example
 pub mod Faithful
 pub mod Outcome
 pub mod WellPosed
