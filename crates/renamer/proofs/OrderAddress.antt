@@ -38,7 +38,6 @@ near_mod space x y left right same = ⊎_elim
     (cases_order x y)
 
 -- A number that is not negative is its own absolute value.
-
 not_negative : (z : ℤ) → pos 0 ≤ℤ z → z ≡ pos (unsigned_abs z)
 not_negative (pos n) e = refl
 not_negative (negsuc n) e = absurd (omega (arith, ints))
@@ -48,12 +47,10 @@ abbrev raised : ℤ → ℕ
 raised offset = unsigned_abs (offset +ℤ pos (2 ^ 20))
 
 -- a raised offset is a natural number
-
 raised-is : (offset : ℤ) → pos 0 ≤ℤ (offset +ℤ pos (2 ^ 20)) → offset +ℤ pos (2 ^ 20) ≡ pos (raised offset)
 raised-is offset low = not_negative (offset +ℤ pos (2 ^ 20)) low
 
 -- a base and an offset, moved by the size of the space, as a natural number
-
 sum_is : (base space u : ℕ) (offset : ℤ) → 2 ^ 32 ≤ space → offset +ℤ pos (2 ^ 20) ≡ pos u → (pos base +ℤ offset) +ℤ pos (1 * space) ≡ pos (base + (space - 2 ^ 20) + u)
 sum_is base space u offset large e = omega (arith, ints)
 
@@ -70,17 +67,14 @@ pub record IsSmall (offset : ℤ) (size : ℕ) : Type 0 where
   pub short : size ≤ 32
 
 -- a raised offset is small
-
 raised_high : (offset : ℤ) (u : ℕ) → offset +ℤ pos (2 ^ 20) ≡ pos u → offset ≤ℤ pos (2 ^ 20) → u ≤ 2 ^ 21
 raised_high offset u e high = omega (arith, ints)
 
 -- raised offsets keep the order of their ranges
-
 raised_before : (a b : ℤ) (u v m : ℕ) → a +ℤ pos (2 ^ 20) ≡ pos u → b +ℤ pos (2 ^ 20) ≡ pos v → int_le (a +ℤ pos m) b ≡ true → u + m ≤ v
 raised_before a b u v m ea eb before = omega (arith, ints)
 
 -- Places in two ranges, one of which ends before the other begins, are not one address.
-
 clash : (c u v i j m n space : ℕ) → 2 ^ 32 ≤ space → u ≤ 2 ^ 21 → v ≤ 2 ^ 21 → u + m ≤ v → i < m → j < n → m ≤ 32 → n ≤ 32 → (c + u + i) % space ≡ (c + v + j) % space → ⊥
 clash c u v i j m n space large hu hv order hi hj hm hn same =
     let is : c + u + i ≡ c + v + j = near_mod space (c + u + i) (c + v + j) (omega arith) (omega arith) same in

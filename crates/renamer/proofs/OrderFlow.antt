@@ -43,13 +43,11 @@ times_of-append a (x ∷ xs) ys =
     omega arith
 
 -- an access among some is among more
-
 among-left : (a : Touch) (xs ys : List Touch) → IsAmong a xs → IsAmong a (xs ++ ys)
 among-left a [] ys h = absurd h
 among-left a (x ∷ xs) ys h = ⊎_elim (λ (same : a ≡ x). inl same) (λ (rest : IsAmong a xs). inr (among-left a xs ys rest)) h
 
 -- and the same behind others
-
 among-right : (a : Touch) (xs ys : List Touch) → IsAmong a ys → IsAmong a (xs ++ ys)
 among-right a [] ys h = h
 among-right a (x ∷ xs) ys h = inr (among-right a xs ys h)
@@ -64,7 +62,6 @@ abbrev Grounded : Body → List ℕ → Type 0
 Grounded body order = (p : ℕ) → stands_in p order ≡ true → list_all (is_grounded order (above p order)) (body.sources p) ≡ true
 
 -- sources that all pass a test all pass a weaker one
-
 list_all-weaken : (f g : Source → Bool) (xs : List Source) → ((x : Source) → f x ≡ true → g x ≡ true) → list_all f xs ≡ true → list_all g xs ≡ true
 list_all-weaken f g [] weaker h = refl
 list_all-weaken f g (x ∷ xs) weaker h =
@@ -72,13 +69,11 @@ list_all-weaken f g (x ∷ xs) weaker h =
     and_from (g x) (list_all g xs) (weaker x parts.0) (list_all-weaken f g xs weaker parts.1)
 
 -- nothing stands above the first item
-
 above-first : (p : ℕ) (order : List ℕ) → above p (p ∷ order) ≡ []
 unfolding above
 above-first p order = cond-true (eqb p p) [] (p ∷ above p order) (eq-eqb p p refl)
 
 -- A source that is grounded in an order is so in what is behind its first item.
-
 grounded-later : (p q : ℕ) (order : List ℕ) → stands_in p order ≡ false → (x : Source) → is_grounded (p ∷ order) (p ∷ above q order) x ≡ true → is_grounded order (above q order) x ≡ true
 grounded-later p q order fresh (Entry r) h = refl
 grounded-later p q order fresh (Item item place) h = ⊎_elim
@@ -93,7 +88,6 @@ grounded-later p q order fresh (Item item place) h = ⊎_elim
     (cases_Bool (stands_in item order))
 
 -- So what is behind the first item of a grounded order is grounded.
-
 grounded-rest : (body : Body) (p : ℕ) (order : List ℕ) → IsOnce (p ∷ order) → Grounded body (p ∷ order) → Grounded body order
 grounded-rest body p order once h q there =
     let here : list_all (is_grounded (p ∷ order) (p ∷ above q order)) (body.sources q) ≡ true =
@@ -101,7 +95,6 @@ grounded-rest body p order once h q there =
     list_all-weaken (is_grounded (p ∷ order) (p ∷ above q order)) (is_grounded order (above q order)) (body.sources q) (grounded-later p q order once.0) here
 
 -- A source that stands above is grounded.
-
 grounded-above : (order up : List ℕ) (x : Source) → comes_from up x ≡ true → is_grounded order up x ≡ true
 grounded-above order up (Entry r) h = refl
 grounded-above order up (Item item place) h = or_right (not (stands_in item order)) (stands_in item up) h

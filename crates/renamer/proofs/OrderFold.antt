@@ -16,12 +16,10 @@ counted weight test [] = 0
 counted weight test (p ∷ order) = cond (test p) (weight p) 0 + counted weight test order
 
 -- the test that each item passes
-
 abbrev pub everything : ℕ → Bool
 everything p = true
 
 -- two choices between equal numbers
-
 either_way : (s t : Bool) (old new : ℕ) → new ≡ old → cond s new old ≡ cond t new old
 either_way true true old new e = refl
 either_way false false old new e = refl
@@ -33,7 +31,6 @@ not_above : (c q : ℕ) (order : List ℕ) → stands_in q (above c order) ≡ t
 not_above c q order h = ne_eqb c q (λ (same : c ≡ q). above-not_itself c order (subst (λ x. stands_in x (above c order) ≡ true) (sym same) h))
 
 -- and the same below
-
 not_below : (c q : ℕ) (order : List ℕ) → IsOnce order → stands_in q (below c order) ≡ true → eqb c q ≡ false
 not_below c q order once h = ne_eqb c q (λ (same : c ≡ q). below-not_itself c order once (subst (λ x. stands_in x (below c order) ≡ true) (sym same) h))
 

@@ -41,7 +41,6 @@ chosen-onto (c ∷ choices) done q h = ⊎_elim
     (or_cases (eqb c.item q) (is_placed choices q) h)
 
 -- a sum in another order
-
 regrouped : (a b c : ℕ) → (a + b) + c ≡ b + (a + c)
 regrouped a b c = omega arith
 

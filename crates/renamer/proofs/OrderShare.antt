@@ -33,7 +33,6 @@ value-at value (y ∷ xs) zero x e = let same : y ≡ x = cc in ap value same
 value-at value (y ∷ xs) (suc k) x e = value-at value xs k x e
 
 -- the value of a base is that of its source
-
 base-at : (value : Source → ℕ) (xs : List Source) (base : Option ℕ) (x : Source) → option_and_then (slice_get xs) base ≡ Some x → base_value base (map value xs) ≡ value x
 base-at value xs None x e = cc
 base-at value xs (Some k) x e = value-at value xs k x e

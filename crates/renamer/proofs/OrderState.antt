@@ -16,7 +16,6 @@ use Rattle.sl_model.specs.Body.{all_differ}
 use Rattle.sl_model.specs.State.{State, reg_key, read, write, byte, put, is_zero, write_all, load, store}
 
 -- equal truth values
-
 same_bool-true : (a b : Bool) → same_bool a b ≡ true → a ≡ b
 same_bool-true true true e = refl
 same_bool-true false false e = refl
@@ -24,7 +23,6 @@ same_bool-true true false e = cc
 same_bool-true false true e = cc
 
 -- banks with one number are equal
-
 same_bank : (a b : Bank) → bank_number a ≡ bank_number b → a ≡ b
 same_bank General General e = refl
 same_bank Vector Vector e = refl
@@ -55,7 +53,6 @@ same_reg-true a b e =
     λ i. record { bank = bank i; symbolic = symbolic i; number = number i }
 
 -- a truth value is itself
-
 same_bool-refl : (a : Bool) → same_bool a a ≡ true
 same_bool-refl true = refl
 same_bool-refl false = refl
@@ -66,12 +63,10 @@ unfolding same_reg
 same_reg-refl a = rw (eq-eqb (bank_number a.bank) (bank_number a.bank) refl, same_bool-refl a.symbolic, eq-eqb a.number a.number refl) refl
 
 -- only equal addresses tie
-
 nat_key_same : (a b : ℕ) → eq_by_cmp nat_cmp a b ≡ true → a ≡ b
 nat_key_same a b e = nat_cmp-IsAntisymmetric a b ((Equal-is (nat_cmp a b)).0 e)
 
 -- only equal keys of registers tie
-
 key_same : (a b : List ℕ) → eq_by_cmp (slice_cmp nat_cmp) a b ≡ true → a ≡ b
 key_same a b e = slice_cmp-IsAntisymmetric nat_cmp-IsAntisymmetric a b ((Equal-is (slice_cmp nat_cmp a b)).0 e)
 
@@ -98,7 +93,6 @@ read-write_same s r value written =
     cond-false (is_zero r) 0 (unwrap_or (get (insert s.regs (reg_key r) value) (reg_key r)) 0) written ∙ ap (λ o. unwrap_or o 0) found
 
 -- the middle number of a key tells whether the register is symbolic
-
 same_symbolic : (a b : Bool) → ◌≡◌ {A = ℕ} (cond a 1 0) (cond b 1 0) → a ≡ b
 same_symbolic true true e = refl
 same_symbolic false false e = refl
@@ -128,13 +122,11 @@ landed None values old = old
 landed (Some place) values old = slice_index values place
 
 -- the same behind one more value
-
 landed-next : (o : Option ℕ) (value : ℕ) (values : List ℕ) (old : ℕ) → landed (option_map (λ j. j + 1) o) (value ∷ values) old ≡ landed o values old
 landed-next None value values old = refl
 landed-next (Some j) value values old = ap (λ n. slice_index (value ∷ values) n) (add-one j)
 
 -- places counted from one more are one more
-
 place_from-next : (k : ℕ) (r : Reg) (regs : List Reg) → place_from (k + 1) r regs ≡ option_map (λ j. j + 1) (place_from k r regs)
 unfolding place_from
 place_from-next k r [] = refl
@@ -144,7 +136,6 @@ place_from-next k r (q ∷ regs) = ⊎_elim
     (cases_Bool (same_reg q r))
 
 -- There is no place where none is found.
-
 no_place : (o : Option ℕ) → is_some o ≡ false → o ≡ None
 no_place None e = refl
 no_place (Some k) e = cc
@@ -191,7 +182,6 @@ stored_at space address [] at = None
 stored_at space address (b ∷ bytes) at = otherwise (stored_at space (address + 1) bytes at) (cond (eqb (address % space) at) (Some b) None)
 
 -- a byte after the first of some bytes and the rest are stored
-
 byte-store_step : (o : Option ℕ) (space address b at : ℕ) (memory : FinMap nat_cmp ℕ) → unwrap_or o (byte (put (address % space) b memory) at) ≡ unwrap_or (otherwise o (cond (eqb (address % space) at) (Some b) None)) (byte memory at)
 byte-store_step (Some v) space address b at memory = refl
 byte-store_step None space address b at memory = ⊎_elim
@@ -217,7 +207,6 @@ load-same space m n address (suc size) same =
     ap₂ (λ x xs. x ∷ xs) here rest
 
 -- as many bytes are loaded as asked for
-
 pub length-load : (space : ℕ) (memory : FinMap nat_cmp ℕ) (address size : ℕ) → length (load space memory address size) ≡ size
 unfolding load
 length-load space memory address zero = refl
@@ -230,7 +219,6 @@ pub record IsWithin (space address size at : ℕ) : Type 0 where
   pub is : (address + place) % space ≡ at
 
 -- where a byte goes, with one more byte before the rest
-
 stored_at_step : (o : Option ℕ) (space address b at size : ℕ) → (is_some o ≡ true → IsWithin space (address + 1) size at) → is_some (otherwise o (cond (eqb (address % space) at) (Some b) None)) ≡ true → IsWithin space address (suc size) at
 stored_at_step (Some v) space address b at size rest found =
     let w : IsWithin space (address + 1) size at = rest refl in

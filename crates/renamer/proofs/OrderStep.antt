@@ -35,7 +35,6 @@ unpadded (suc n) [] fits = unpadded n [] (omega arith)
 unpadded (suc n) (r ∷ regs) fits = ap (λ xs. r ∷ xs) (unpadded n regs (omega arith))
 
 -- padded registers fill all places
-
 length-padded : (n : ℕ) (regs : List Reg) → length (padded n regs) ≡ n
 length-padded zero regs = refl
 length-padded (suc n) [] = ap suc (length-padded n [])
@@ -73,7 +72,6 @@ values-same isa i ins m n same = ⊎_elim
     (cases_Bool (is_load (isa.info i.form)))
 
 -- As many bytes are loaded as the form says.
-
 loaded-count : (isa : Isa) (i : Instr) (ins : List ℕ) (m : FinMap nat_cmp ℕ) → length (loaded_by isa i ins m) ≡ load_size isa i.form
 unfolding loaded_by
 loaded-count isa i ins m = ⊎_elim
@@ -99,7 +97,6 @@ given-value done t value x None ys registers holds = absurd (true≢false (sym h
 given-value done t value x (Some r) ys registers holds = ap (λ v. v ∷ map (read t) ys) (registers r ∙ ap value (same_source-true (held done r) x holds))
 
 -- So the registers given to sources that are still held have the values of the sources.
-
 given-values : (done : List Choice) (t : State) (value : Source → ℕ) (xs : List Source) → ((r : Reg) → read t r ≡ value (held done r)) → list_all (is_still_held done) xs ≡ true → map (read t) (filter_map (given done) xs) ≡ map value xs
 unfolding is_still_held
 given-values done t value [] registers all = refl
@@ -120,13 +117,11 @@ unfolding is_placed
 placed-here c done = or_left (eqb c.item c.item) (is_placed done c.item) (eq-eqb c.item c.item refl)
 
 -- What was placed is placed.
-
 pub placed-before : (c : Choice) (done : List Choice) (q : ℕ) → is_placed done q ≡ true → is_placed (c ∷ done) q ≡ true
 unfolding is_placed
 placed-before c done q h = or_right (eqb c.item q) (is_placed done q) h
 
 -- Nothing else is.
-
 pub placed-others : (c : Choice) (done : List Choice) (q : ℕ) → eqb c.item q ≡ false → is_placed (c ∷ done) q ≡ is_placed done q
 unfolding is_placed
 placed-others c done q other = ap (λ t. t || is_placed done q) other
