@@ -16,6 +16,7 @@ fit-one [] value lt = refl
 fit-one (r ∷ []) value lt = ap (λ b. b && true) (lt-ltb value (2 ^ 32) lt)
 fit-one (r ∷ q ∷ regs) value lt = ap (λ b. b && true) (lt-ltb value (2 ^ 32) lt)
 
+-- registers have values
 lt_two_pow : 0 < 2 ^ 32
 lt_two_pow = omega arith
 

@@ -73,6 +73,7 @@ stands-next isa problem done c j r (Item item place) sound legal final made stan
             put_there isa problem done c j r place sound legal (final ∙ ap (λ p. Some (r, Item p place)) (sym same)) (subst (λ p. place < length (outputs (item_at problem.items p))) (sym same) within)
             ∙ ap (λ p. Item p place) same
 
+-- a legal list of choices leaves each final register as it should be
 stands-all : (isa : Isa) (problem : Problem) (done choices : List Choice) (j : ℕ) (r : Reg) (value : Source) → IsSound isa (body_of problem) → IsLegalFrom isa problem done choices → slice_get problem.finals j ≡ Some (r, value) → is_made problem (r, value) ≡ true → Stands done r value → Stands (reverse_aux choices done) r value
 stands-all isa problem done [] j r value sound legal final made stands = stands
 stands-all isa problem done (c ∷ choices) j r value sound legal final made stands =
@@ -104,6 +105,7 @@ list_all-stands p [] item all stands = absurd (true≢false (sym stands))
 list_all-stands p (q ∷ order) item all stands =
     ⊎_elim (λ here. ap p (sym (eqb-true q item here)) ∙ and_left (p q) (list_all p order) all) (λ later. list_all-stands p order item (and_right (p q) (list_all p order) all) later) (either (eqb q item) (stands_in item order) stands)
 
+-- once all items are placed, each final value is
 stands-holds : (problem : Problem) (schedule : List Choice) (r : Reg) (value : Source) → is_full problem.order schedule ≡ true → is_made problem (r, value) ≡ true → Stands (reverse schedule) r value → held (reverse schedule) r ≡ value
 stands-holds problem schedule r (Entry q) full made stands = stands
 stands-holds problem schedule r (Item item place) full made stands =

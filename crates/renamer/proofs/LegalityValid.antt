@@ -16,12 +16,14 @@ use Rattle.sl_model.specs.Body.{chosen, given, all_differ, applied_item, applied
 use Rattle.sl_model.specs.Lawful.{IsValid, suits_set, is_of_bank, is_tied_to, is_reg_at, is_some_reg}
 use Rattle.sl_model.specs.Legal.{Problem, IsLegalNext, IsLegalFrom, sources_in, body_of, suits_output, output_classes, is_tied, is_given, is_register}
 use Rattle.renamer.specs.Faithful.{IsSound}
+use Rattle.renamer.specs.WellPosed.{AreValid}
 use Rattle.std.proofs.lemmas.Bool.{not-true}
 use Rattle.renamer.proofs.OwnTests.{and_left, and_right, list_all-at, list_all-from_each, element_at}
 use Rattle.renamer.proofs.LegalityRules.{KeepsRules, keeps_rules, SuitsOutput, suits_outputs, SuitsOperand, suits_operands}
 
 -- places of registers
 
+-- there are so many places
 length-padded : (n : ℕ) (regs : List Reg) → length (padded n regs) ≡ n
 length-padded zero regs = refl
 length-padded (suc n) [] = ap (λ m. suc m) (length-padded n [])
@@ -34,6 +36,7 @@ padded-back zero (r ∷ regs) le = absurd (omega arith)
 padded-back (suc n) [] le = padded-back n [] (omega arith)
 padded-back (suc n) (r ∷ regs) le = ap (λ l. r ∷ l) (padded-back n regs (omega arith))
 
+-- no more is given than there are elements
 filter_map-bound : {X Y : Type 0} (h : X → Option Y) (xs : List X) → length (filter_map h xs) ≤ length xs
 filter_map-bound h [] = omega arith
 filter_map-bound h (x ∷ xs) = bound (h x) (filter_map h xs) (length xs) (filter_map-bound h xs)
@@ -135,7 +138,7 @@ applied_item-valid isa problem done c sound legal =
         ] refl is
 
 -- Each instruction of an applied legal list of choices is one of the set.
-pub applied-valid : (isa : Isa) (problem : Problem) (done choices : List Choice) → IsSound isa (body_of problem) → IsLegalFrom isa problem done choices → (p : ℕ) → p < length (applied_from (body_of problem) done choices) → IsValid isa (item_at (applied_from (body_of problem) done choices) p)
+pub applied-valid : (isa : Isa) (problem : Problem) (done choices : List Choice) → IsSound isa (body_of problem) → IsLegalFrom isa problem done choices → AreValid isa (applied_from (body_of problem) done choices)
 unfolding applied_from
 applied-valid isa problem done [] sound legal p within = absurd (omega arith)
 applied-valid isa problem done (c ∷ choices) sound legal zero within = applied_item-valid isa problem done c sound legal.0

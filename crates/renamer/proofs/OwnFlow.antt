@@ -21,6 +21,7 @@ use Rattle.sl_model.specs.Body.{Body, Flow, flow_item, flow_from, flow_of, sourc
 use Rattle.sl_model.specs.Lawful.{IsLawful, IsValid, suits_set, zero_register}
 use Rattle.sl_model.specs.Legal.{numbers_below}
 use Rattle.renamer.specs.Faithful.{own_body, FlowIsRun}
+use Rattle.renamer.specs.WellPosed.{AreValid}
 use Rattle.std.proofs.lemmas.Bool.{cases_Bool}
 use Rattle.renamer.proofs.OwnTests.{list_all-at, list_any-at, list_any-from_each, zip-at, element_at}
 use Rattle.std.proofs.lemmas.Option.{slice_get_within}
@@ -62,6 +63,7 @@ plain_outputs isa i lawful valid = list_any-from_each is_zero (outputs i) (λ k 
         let lacks : set_has set.0 zero_register ≡ false = list_any-at (λ x. set_has x zero_register) (isa.info i.form).out_sets k set.0 (lawful.writable i.form) set.1 in
         true≢false (sym suits ∙ lacks)
 
+-- a list that may be left out has as many elements, or none
 length-if : (b : Bool) (xs : List ℕ) (n : ℕ) → length xs ≡ n → length (if b then xs else []) ≡ (if b then n else 0)
 length-if true xs n e = e
 length-if false xs n e = refl
@@ -98,6 +100,7 @@ unfolding run
 run-push isa [] i s = refl
 run-push isa (j ∷ items) i s = run-push isa items i (exec isa j s)
 
+-- and its accesses
 touches-push : (isa : Isa) (items : List Instr) (i : Instr) (s : State) → touches isa (items ++ i ∷ []) s ≡ touches isa items s ++ touches_of isa i (operand_values i (run isa items s))
 unfolding run touches
 touches-push isa [] i s = append-nil (touches_of isa i (operand_values i s))
@@ -116,6 +119,7 @@ abbrev pub IsBefore : ℕ → Source → Type 0
 IsBefore n (Entry r) = Unit {0}
 IsBefore n (Item item place) = item < n
 
+-- an output of an item, or what was before it, is before the next item
 IsBefore-output_or : (n : ℕ) (o : Option ℕ) (earlier : Source) → IsBefore n earlier → IsBefore (suc n) (output_or n o earlier)
 IsBefore-output_or n None (Entry r) before = tt
 IsBefore-output_or n None (Item item place) before = omega arith
@@ -142,12 +146,15 @@ record Follows (isa : Isa) (items : List Instr) (s : State) (n : ℕ) (flow : Fl
   memory : (run isa (take n items) s).memory ≡ flow.memory
   accesses : touches isa (take n items) s ≡ flow.touches
 
+-- a flow before the first item
 empty_flow : State → Flow
 empty_flow s = record { values = []; memory = s.memory; touches = [] }
 
+-- maps that agree give one list
 map-agree : {A B : Type 0} (f g : A → B) (xs : List A) → ((x : A) → f x ≡ g x) → map f xs ≡ map g xs
 map-agree f g xs same = ap (λ h. map h xs) (λ i x. same x i)
 
+-- one more item
 follows-next : (isa : Isa) (items : List Instr) (s : State) (n : ℕ) (flow : Flow) → IsLawful isa → IsValid isa (item_at items n) → n < length items → Follows isa items s n flow → Follows isa items s (suc n) (flow_item isa (own_body items) s flow n)
 unfolding list_sources source_of
 follows-next isa items s n flow lawful valid within so_far =
@@ -187,7 +194,8 @@ follows-next isa items s n flow lawful valid within so_far =
           ∙ ap (λ t. t ++ touches_of isa i ins) so_far.accesses;
     }
 
-follows-all : (isa : Isa) (items : List Instr) (s : State) → IsLawful isa → ((p : ℕ) → p < length items → IsValid isa (item_at items p)) → (n : ℕ) → n ≤ length items → Follows isa items s n (flow_from isa (own_body items) s (empty_flow s) (numbers_below n))
+-- all items up to a number
+follows-all : (isa : Isa) (items : List Instr) (s : State) → IsLawful isa → AreValid isa items → (n : ℕ) → n ≤ length items → Follows isa items s n (flow_from isa (own_body items) s (empty_flow s) (numbers_below n))
 unfolding run touches source_of flow_from numbers_below empty_flow
 follows-all isa items s lawful valid zero le = record { registers = λ r. refl; memory = refl; accesses = refl }
 follows-all isa items s lawful valid (suc n) le =
@@ -197,7 +205,7 @@ follows-all isa items s lawful valid (suc n) le =
     (follows-all isa items s lawful valid n (le_of_lt within)))
 
 -- The flow of a list's own body is its run.
-pub own_flow-run : (isa : Isa) (items : List Instr) (s : State) → IsLawful isa → ((p : ℕ) → p < length items → IsValid isa (item_at items p)) → FlowIsRun isa items s
+pub own_flow-run : (isa : Isa) (items : List Instr) (s : State) → IsLawful isa → AreValid isa items → FlowIsRun isa items s
 unfolding empty_flow
 own_flow-run isa items s lawful valid =
     let whole : take (length items) items ≡ items = take_all (length items) items (le_refl (length items)) in

@@ -15,22 +15,27 @@ pub and_left : (a b : Bool) → (a && b) ≡ true → a ≡ true
 and_left true b e = refl
 and_left false b e = e
 
+-- the second part
 pub and_right : (a b : Bool) → (a && b) ≡ true → b ≡ true
 and_right true b e = e
 and_right false b e = absurd (true≢false (sym e))
 
+-- two tests that hold, joined
 pub both : (a b : Bool) → a ≡ true → b ≡ true → (a && b) ≡ true
 both true b e f = f
 both false b e f = e
 
+-- the parts of a test of either that fails
 pub or_left : (a b : Bool) → (a || b) ≡ false → a ≡ false
 or_left true b e = e
 or_left false b e = refl
 
+-- the second part
 pub or_right : (a b : Bool) → (a || b) ≡ false → b ≡ false
 or_right true b e = absurd (true≢false e)
 or_right false b e = e
 
+-- one of two tests holds
 pub either : (a b : Bool) → (a || b) ≡ true → (a ≡ true) ⊎ (b ≡ true)
 either true b e = inl refl
 either false b e = inr e
@@ -47,15 +52,18 @@ module _ {A : Type 0} where
   list_all-at p (y ∷ xs) zero x all at = let e : y ≡ x = cc in ap p (sym e) ∙ and_left (p y) (list_all p xs) all
   list_all-at p (y ∷ xs) (suc k) x all at = list_all-at p xs k x (and_right (p y) (list_all p xs) all) at
 
+  -- and the other way round
   pub list_all-from_each : (p : A → Bool) (xs : List A) → ((k : ℕ) (x : A) → slice_get xs k ≡ Some x → p x ≡ true) → list_all p xs ≡ true
   list_all-from_each p [] each = refl
   list_all-from_each p (y ∷ xs) each = both (p y) (list_all p xs) (each 0 y refl) (list_all-from_each p xs (λ k x at. each (suc k) x at))
 
+  -- where a test of any element fails, it fails at each place
   pub list_any-at : (p : A → Bool) (xs : List A) (k : ℕ) (x : A) → list_any p xs ≡ false → slice_get xs k ≡ Some x → p x ≡ false
   list_any-at p [] k x none at = absurd (cc)
   list_any-at p (y ∷ xs) zero x none at = let e : y ≡ x = cc in ap p (sym e) ∙ or_left (p y) (list_any p xs) none
   list_any-at p (y ∷ xs) (suc k) x none at = list_any-at p xs k x (or_right (p y) (list_any p xs) none) at
 
+  -- and the other way round
   pub list_any-from_each : (p : A → Bool) (xs : List A) → ((k : ℕ) (x : A) → slice_get xs k ≡ Some x → p x ≡ false) → list_any p xs ≡ false
   list_any-from_each p [] each = refl
   list_any-from_each p (y ∷ xs) each = ap (λ b. b || list_any p xs) (each 0 y refl) ∙ list_any-from_each p xs (λ k x at. each (suc k) x at)
@@ -66,16 +74,19 @@ module _ {A : Type 0} where
   element_at (y ∷ xs) zero lt = (y, refl)
   element_at (y ∷ xs) (suc k) lt = element_at xs k (omega arith)
 
+  -- an element beside its number
   pub enumerate_from-at : (n : ℕ) (xs : List A) (k : ℕ) (x : A) → slice_get xs k ≡ Some x → slice_get (enumerate_from n xs) k ≡ Some (n + k, x)
   enumerate_from-at n [] k x at = absurd (cc)
   enumerate_from-at n (y ∷ xs) zero x at = let e : y ≡ x = cc in let f : n ≡ n + 0 = omega arith in cc
   enumerate_from-at n (y ∷ xs) (suc k) x at = enumerate_from-at (n + 1) xs k x at ∙ ap (λ m. Some (m, x)) (let f : n + 1 + k ≡ n + suc k = omega arith in f)
 
 module _ {A B : Type 0} where
+  -- a test of any image is one of any element
   pub list_any-map : (p : B → Bool) (f : A → B) (xs : List A) → list_any p (map f xs) ≡ list_any (λ x. p (f x)) xs
   list_any-map p f [] = refl
   list_any-map p f (x ∷ xs) = ap (λ b. p (f x) || b) (list_any-map p f xs)
 
+  -- elements of one place side by side
   pub zip-at : (xs : List A) (ys : List B) (k : ℕ) (x : A) (y : B) → slice_get xs k ≡ Some x → slice_get ys k ≡ Some y → slice_get (zip xs ys) k ≡ Some (x, y)
   zip-at [] ys k x y at beside = absurd (cc)
   zip-at (a ∷ xs) [] k x y at beside = absurd (cc)
@@ -88,6 +99,7 @@ module _ {A B : Type 0} where
 pub same_reg-differ : (a b : Reg) → same_reg a b ≡ false → a ≢ b
 same_reg-differ a b e same = true≢false (sym (same_reg-refl a) ∙ ap (same_reg a) same ∙ e)
 
+-- the test tells registers apart from either side
 pub same_reg-comm : (a b : Reg) → same_reg a b ≡ false → same_reg b a ≡ false
 same_reg-comm a b e = ⊎_elim (λ t. absurd (same_reg-differ a b e (sym (same_reg-true b a t)))) (λ f. f) (cases_Bool (same_reg b a))
 

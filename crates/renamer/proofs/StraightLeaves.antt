@@ -17,11 +17,12 @@ use Rattle.sl_model.specs.Cycles.{CostTable}
 use Rattle.sl_model.specs.Isa.{Isa}
 use Rattle.sl_model.specs.Exec.{run, touches, touches_of, values_of, memory_after}
 use Rattle.sl_model.specs.Body.{Body, Flow, flow_from, flow_of, source_value, sources_values, chosen, held, stands_in, applied}
-use Rattle.sl_model.specs.Lawful.{IsLawful, IsValid}
+use Rattle.sl_model.specs.Lawful.{IsLawful}
 use Rattle.sl_model.specs.Legal.{Problem, IsLegalNext, IsLegalFrom, IsFullLegal, allowed_in, body_of, numbers_below, sources_in, straight_problem, written}
 use Rattle.sl_model.specs.Program.{Leaves, TagsHoldOf, is_one_of, times_of}
 use Rattle.sl_model.specs.Program.Program.{Straight}
 use Rattle.renamer.specs.Faithful.{IsSound, Carries, FlowIsRun, own_body}
+use Rattle.renamer.specs.WellPosed.{AreValid}
 use Rattle.renamer.proofs.OrderRun.{order-carries}
 use Rattle.std.proofs.lemmas.Bool.{cases_Bool}
 use Rattle.renamer.proofs.OrderState.{same_reg-true}
@@ -78,6 +79,7 @@ straight-misses isa items live free costs done c r sound legal lacks = place_fro
         ap (λ set. set_has set q) (sym (straight-allowed items live free costs c.item (below-lt (length items) c.item legal.of.known))) ∙ suits.allowed in
         true≢false (sym allowed ∙ ap (set_has (set_of (written items ++ free))) same ∙ set_of-lacks r (written items ++ free) lacks)
 
+-- so such a register holds what it held before
 straight-keeps : (isa : Isa) (items : List Instr) (live free : List Reg) (costs : CostTable) (done choices : List Choice) (r : Reg) → IsSound isa (body_of (straight_problem items live free costs)) → IsLegalFrom isa (straight_problem items live free costs) done choices → list_any (λ q. same_reg q r) (written items ++ free) ≡ false → held done r ≡ Entry r → held (reverse_aux choices done) r ≡ Entry r
 unfolding held
 straight-keeps isa items live free costs done [] r sound legal lacks holds = holds
@@ -111,7 +113,7 @@ final_at items live free costs r one =
     (found.0, slice_get-map final live found.0 ∙ ap (option_map final) found.1)
 
 -- A full legal schedule of a straight list leaves what the list leaves.
-pub straight-leaves : (isa : Isa) (items : List Instr) (live free : List Reg) (costs : CostTable) (schedule : List Choice) (s : State) (decrement : Bool → Reg → Instr) → IsLawful isa → ((p : ℕ) → p < length items → IsValid isa (item_at items p)) → IsFullLegal isa (straight_problem items live free costs) schedule → TagsHoldOf isa.space (touches isa items s) → Leaves isa decrement live free (Straight items) (Straight (applied (body_of (straight_problem items live free costs)) schedule)) s
+pub straight-leaves : (isa : Isa) (items : List Instr) (live free : List Reg) (costs : CostTable) (schedule : List Choice) (s : State) (decrement : Bool → Reg → Instr) → IsLawful isa → AreValid isa items → IsFullLegal isa (straight_problem items live free costs) schedule → TagsHoldOf isa.space (touches isa items s) → Leaves isa decrement live free (Straight items) (Straight (applied (body_of (straight_problem items live free costs)) schedule)) s
 unfolding held
 straight-leaves isa items live free costs schedule s decrement lawful valid legal tags =
     let problem : Problem = straight_problem items live free costs in

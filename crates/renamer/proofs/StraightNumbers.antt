@@ -20,10 +20,12 @@ stands_in-push item (p ∷ order) last = ap (λ b. eqb p item || b) (stands_in-p
     regroup true b c = refl
     regroup false b c = refl
 
+-- one of two tests holds
 or_true : (a b : Bool) → b ≡ true → (a || b) ≡ true
 or_true true b e = refl
 or_true false b e = e
 
+-- neither of two tests holds
 or_false : (a b : Bool) → a ≡ false → b ≡ false → (a || b) ≡ false
 or_false a b e f = ap (λ x. x || b) e ∙ f
 
@@ -62,6 +64,7 @@ lt-below (suc n) item lt =
 pub not-below : (n item : ℕ) → n ≤ item → stands_in item (numbers_below n) ≡ false
 not-below n item le = ⊎_elim (λ t. let lt : item < n = below-lt n item t in absurd (omega arith)) (λ f. f) (cases_Bool (stands_in item (numbers_below n)))
 
+-- what stands above a number that is there already stays above it
 above-in : (item : ℕ) (order rest : List ℕ) → stands_in item order ≡ true → above item (order ++ rest) ≡ above item order
 unfolding above stands_in
 above-in item [] rest stands = absurd (true≢false (sym stands))
@@ -71,6 +74,7 @@ above-in item (p ∷ order) rest stands =
       | false ↦ λ e. ap (λ l. p ∷ l) (above-in item order rest e)
     ] stands
 
+-- above the last number stand all others
 above-last : (item : ℕ) (order : List ℕ) → stands_in item order ≡ false → above item (order ++ item ∷ []) ≡ order
 unfolding above stands_in
 above-last item [] lacks = ap (λ b. if b then [] else item ∷ []) (eq-eqb item item refl)
@@ -88,6 +92,7 @@ above-below (suc n) item lt =
     (λ last. subst (λ m. above m (numbers_below n ++ n ∷ []) ≡ numbers_below m) last (above-last n (numbers_below n) (not-below n n (omega arith))))
     (below_or_last n item lt)
 
+-- one more number, which is new
 IsOnce-push : (order : List ℕ) (last : ℕ) → IsOnce order → stands_in last order ≡ false → IsOnce (order ++ last ∷ [])
 unfolding stands_in
 IsOnce-push [] last once lacks = (refl, tt)
@@ -102,16 +107,19 @@ unfolding numbers_below
 once-below zero = tt
 once-below (suc n) = IsOnce-push (numbers_below n) n (once-below n) (not-below n n (omega arith))
 
+-- there are as many numbers below a number
 length-below : (n : ℕ) → length (numbers_below n) ≡ n
 unfolding numbers_below
 length-below zero = refl
 length-below (suc n) = omega (arith, length-append (numbers_below n) (n ∷ []), length-below n)
 
+-- what stands in the first of two lists stands in both joined
 slice_get-front : {A : Type 0} (xs ys : List A) (k : ℕ) (x : A) → slice_get xs k ≡ Some x → slice_get (xs ++ ys) k ≡ Some x
 slice_get-front [] ys k x at = absurd (cc)
 slice_get-front (z ∷ xs) ys zero x at = at
 slice_get-front (z ∷ xs) ys (suc k) x at = slice_get-front xs ys k x at
 
+-- one more element stands last
 slice_get-seam : {A : Type 0} (xs : List A) (y : A) → slice_get (xs ++ y ∷ []) (length xs) ≡ Some y
 slice_get-seam [] y = refl
 slice_get-seam (x ∷ xs) y = slice_get-seam xs y

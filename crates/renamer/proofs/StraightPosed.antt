@@ -15,10 +15,9 @@ use Rattle.sl_model.specs.Source.{operands, outputs, item_at, no_instr, source_o
 use Rattle.sl_model.specs.Cycles.{CostTable}
 use Rattle.sl_model.specs.Isa.{Isa}
 use Rattle.sl_model.specs.Body.{above, stands_in, all_differ, same_source}
-use Rattle.sl_model.specs.Lawful.{IsValid}
 use Rattle.sl_model.specs.Legal.{sources_in, body_of, numbers_below, straight_problem}
 use Rattle.renamer.specs.Faithful.{IsSound, comes_from}
-use Rattle.renamer.specs.WellPosed.{IsWellPosed, is_made, sources_differ}
+use Rattle.renamer.specs.WellPosed.{AreValid, IsWellPosed, is_made, sources_differ}
 use Rattle.std.proofs.lemmas.Bool.{not-true, cases_Bool}
 use Rattle.renamer.proofs.OrderState.{same_reg-refl}
 use Rattle.renamer.proofs.OrderShare.{same_source-true}
@@ -37,9 +36,11 @@ comes_from_before : (p : ℕ) (value : Source) → IsBefore p value → comes_fr
 comes_from_before p (Entry r) before = refl
 comes_from_before p (Item item place) before = lt-below p item before
 
+-- so many items, turned round
 length-above : (items : List Instr) (n : ℕ) → n ≤ length items → length (reverse (take n items)) ≡ n
 length-above items n le = length-reverse (take n items) ∙ length-take-le n items le
 
+-- the sources of an item stand above it
 list_sources-before : (items : List Instr) (p : ℕ) → p < length items → list_all (comes_from (numbers_below p)) (list_sources items p) ≡ true
 unfolding list_sources
 list_sources-before items p within =
@@ -47,12 +48,13 @@ list_sources-before items p within =
     ∙ list_all-from_each (λ r. comes_from (numbers_below p) (source_of r (reverse (take p items)))) (operands (item_at items p)) (λ k r at.
     comes_from_before p (source_of r (reverse (take p items))) (subst (λ n. IsBefore n (source_of r (reverse (take p items)))) (length-above items p (le_of_lt within)) (IsBefore-source_of r (reverse (take p items)))))
 
+-- there is a source for each operand
 length-list_sources : (items : List Instr) (p : ℕ) → length (list_sources items p) ≡ length (operands (item_at items p))
 unfolding list_sources
 length-list_sources items p = length-map (operands (item_at items p)) (λ r. source_of r (reverse (take p items)))
 
 -- The straight problem of valid items is a sound body.
-pub straight-sound : (isa : Isa) (items : List Instr) (live free : List Reg) (costs : CostTable) → ((p : ℕ) → p < length items → IsValid isa (item_at items p)) → IsSound isa (body_of (straight_problem items live free costs))
+pub straight-sound : (isa : Isa) (items : List Instr) (live free : List Reg) (costs : CostTable) → AreValid isa items → IsSound isa (body_of (straight_problem items live free costs))
 straight-sound isa items live free costs valid = record {
   items = λ p stands. valid p (below-lt (length items) p stands);
   operands_have = λ p stands. ap length (straight_sources items live free costs p (below-lt (length items) p stands)) ∙ length-list_sources items p;
@@ -68,6 +70,7 @@ abbrev pub Makes : List Instr → ℕ → Reg → Source → Type 0
 Makes items n r (Entry q) = q ≡ r
 Makes items n r (Item item place) = (item < n) × (slice_get (outputs (item_at items item)) place ≡ Some r)
 
+-- one more item: its output in the register, or what was there
 Makes-output_or : (items : List Instr) (n : ℕ) (r : Reg) (o : Option ℕ) (earlier : Source) → place_from 0 r (outputs (item_at items n)) ≡ o → Makes items n r earlier → Makes items (suc n) r (output_or n o earlier)
 Makes-output_or items n r None (Entry q) is makes = makes
 Makes-output_or items n r None (Item item place) is makes = (omega (arith, makes.0), makes.1)
@@ -76,6 +79,7 @@ Makes-output_or items n r (Some place) earlier is makes =
     let same : found.0 ≡ place = omega (arith, found.1) in
     (omega arith, subst (λ k. slice_get (outputs (item_at items n)) k ≡ Some r) same found.2)
 
+-- what stands in a register after so many items
 makes-front : (items : List Instr) (r : Reg) (n : ℕ) → n ≤ length items → Makes items n r (source_of r (reverse (take n items)))
 unfolding source_of
 makes-front items r zero le = refl
@@ -92,6 +96,7 @@ makes-front items r (suc n) le =
 pub makes-last : (items : List Instr) (r : Reg) → Makes items (length items) r (last_source items r)
 makes-last items r = subst (λ l. Makes items (length items) r (source_of r (reverse l))) (take_all (length items) items (le_refl (length items))) (makes-front items r (length items) (le_refl (length items)))
 
+-- such a source is made in the straight problem
 made_from : (items : List Instr) (live free : List Reg) (costs : CostTable) (r : Reg) (value : Source) → Makes items (length items) r value → is_made (straight_problem items live free costs) (r, value) ≡ true
 made_from items live free costs r (Entry q) makes = ap (same_reg q) (sym makes) ∙ same_reg-refl q
 made_from items live free costs r (Item item place) makes =
@@ -129,7 +134,7 @@ last_sources-differ items (r ∷ live) differ =
         absurd (true≢false (sym (ap (λ x. same_reg x r) same ∙ same_reg-refl r) ∙ place_from-none 0 r live k q none at))) (λ f. f) (cases_Bool (same_source (last_source items r) (last_source items q)))
 
 -- The straight problem of valid items and different live-out registers is well posed.
-pub straight-well_posed : (isa : Isa) (items : List Instr) (live free : List Reg) (costs : CostTable) → ((p : ℕ) → p < length items → IsValid isa (item_at items p)) → all_differ live ≡ true → IsWellPosed isa (straight_problem items live free costs)
+pub straight-well_posed : (isa : Isa) (items : List Instr) (live free : List Reg) (costs : CostTable) → AreValid isa items → all_differ live ≡ true → IsWellPosed isa (straight_problem items live free costs)
 straight-well_posed isa items live free costs valid differ = record {
   sound = straight-sound isa items live free costs valid;
   registers_differ = ap all_differ (map-map (λ (f : Reg × Source). f.0) (λ r. (r, last_source items r)) live ∙ map-id live) ∙ differ;

@@ -23,6 +23,7 @@ is_some-place_from j r (q ∷ regs) =
       | false ↦ is_some-place_from (j + 1) r regs
     ]
 
+-- the same of the test by place
 pub is_one_of-any : (r : Reg) (regs : List Reg) → is_one_of r regs ≡ list_any (λ q. same_reg q r) regs
 is_one_of-any r regs = is_some-place_from 0 r regs
 
@@ -56,6 +57,7 @@ bits_differ q r here there differ e =
     ∙ sym (not-true r.symbolic (and_left (not r.symbolic) (nat_lt r.number (bank_size r.bank)) there)) in
     same_reg-differ q r differ (λ i. record { bank = same.0 i; symbolic = symbolic i; number = same.1 i })
 
+-- the set of registers lacks the bit of another
 set_of-lacks_bit : (r : Reg) (regs : List Reg) → is_of_machine r ≡ true → list_any (λ q. same_reg q r) regs ≡ false → bit_at (set_of regs).bits (bit_of r.bank r.number) ≡ 0
 unfolding set_of
 set_of-lacks_bit r [] there lacks = bit_at-zero (bit_of r.bank r.number)
