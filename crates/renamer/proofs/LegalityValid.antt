@@ -1,5 +1,5 @@
 -- Each instruction of an applied legal schedule is one of the instruction set.
-use Rattle.std.proofs.Common.{◌≡◌, ℕ, zero, suc, ◌<◌, ◌≤◌, true, false, not, eqb, nat_lt, List, [], ◌∷◌, length, Option, None, Some, if◌then◌else◌, refl, sym, ap, subst, ◌∙◌, true≢false, arith, slice_get, filter_map, option_map, zip}
+use Rattle.std.proofs.Common.{◌≡◌, ℕ, zero, suc, ◌<◌, ◌≤◌, true, false, not, ◌&&◌, eqb, List, [], ◌∷◌, length, Option, None, Some, if◌then◌else◌, refl, sym, ap, subst, ◌∙◌, true≢false, arith, slice_get, filter_map, option_map, zip}
 use Rattle.std.specs.Int.{bit_at}
 use Rattle.std.specs.List.{list_all, cons_option}
 use Rattle.std.proofs.lemmas.Option.{slice_get_within}
@@ -9,7 +9,7 @@ use Rattle.sl_model.specs.declared.instruction.Instr.{Instr}
 use Rattle.sl_model.specs.declared.instruction.FormInfo.{FormInfo}
 use Rattle.sl_model.specs.declared.schedule.Choice.{Choice}
 use Rattle.sl_model.specs.declared.schedule.Source.{Source}
-use Rattle.sl_model.specs.RegSets.{set_has, bank_size, is_of_machine, bit_of}
+use Rattle.sl_model.specs.RegSets.{set_has, is_in_bank, bit_of}
 use Rattle.sl_model.specs.Source.{operands, item_at, padded}
 use Rattle.sl_model.specs.Isa.{Isa}
 use Rattle.sl_model.specs.Body.{chosen, given, all_differ, applied_item, applied_from}
@@ -72,7 +72,7 @@ zip-parts (a ∷ xs) (b ∷ ys) (suc k) x y at = zip-parts xs ys k x y at
 suits-from_set : (r : Reg) (set : RegSet) → set_has set r ≡ true → suits_set (r, set) ≡ true
 unfolding set_has
 suits-from_set r set has =
-    let concrete : r.symbolic ≡ false = not-true r.symbolic (and_left (not r.symbolic) (nat_lt r.number (bank_size r.bank)) (and_left (is_of_machine r) (eqb (bit_at set.bits (bit_of r.bank r.number)) 1) has)) in
+    let concrete : r.symbolic ≡ false = not-true r.symbolic (and_left (not r.symbolic) (eqb (bit_at set.bits (bit_of r.bank r.number)) 1 && is_in_bank r) has) in
     ap (λ b. if b then is_of_bank r.bank set else set_has set r) concrete ∙ has
 
 -- An item of a legal choice, applied, is an instruction of the set.

@@ -1,5 +1,5 @@
 -- A register that is none of some registers isn't in the set of those.
-use Rattle.std.proofs.Common.{◌≡◌, ◌≢◌, ℕ, ◌+◌, ◌<◌, ◌^◌, max, true, false, ◌&&◌, ◌||◌, not, nat_lt, eqb, bit_or, List, [], ◌∷◌, Some, if◌then◌else◌, refl, sym, ap, ◌∙◌, arith, is_some, ltb-true}
+use Rattle.std.proofs.Common.{◌≡◌, Bool, ◌≢◌, ℕ, ◌+◌, ◌<◌, ◌^◌, max, true, false, ◌&&◌, ◌||◌, not, nat_lt, eqb, bit_or, List, [], ◌∷◌, Some, if◌then◌else◌, refl, sym, ap, ◌∙◌, arith, is_some, ltb-true}
 use Rattle.std.specs.Int.{bit_at}
 use Rattle.std.specs.List.{list_any}
 use Rattle.std.proofs.lemmas.Nat.Bits.{bit_at-zero, bit_at-pow_other, bit_at_or}
@@ -7,11 +7,11 @@ use Rattle.sl_model.specs.declared.register.Bank.{Bank}
 use Rattle.sl_model.specs.declared.register.Bank.TheVariants.{General, Vector, Flags, Stack}
 use Rattle.sl_model.specs.declared.register.Reg.{Reg}
 use Rattle.sl_model.specs.Register.{same_reg}
-use Rattle.sl_model.specs.RegSets.{bit_of, bank_size, is_of_machine, set_has, set_of}
+use Rattle.sl_model.specs.RegSets.{bit_of, bank_size, is_in_bank, is_of_machine, set_has, set_of}
 use Rattle.sl_model.specs.Source.{place_from}
 use Rattle.sl_model.specs.Program.{is_one_of}
 use Rattle.std.proofs.lemmas.Bool.{not-true}
-use Rattle.renamer.proofs.OwnTests.{and_left, and_right, or_left, or_right, same_reg-differ}
+use Rattle.renamer.proofs.OwnTests.{both, and_left, and_right, or_left, or_right, same_reg-differ}
 
 -- a register is one of some exactly where a test of each finds it
 is_some-place_from : (j : ℕ) (r : Reg) (regs : List Reg) → is_some (place_from j r regs) ≡ list_any (λ q. same_reg q r) regs
@@ -74,7 +74,15 @@ set_of-lacks_bit r (q ∷ regs) there lacks =
 pub set_of-lacks : (r : Reg) (regs : List Reg) → list_any (λ q. same_reg q r) regs ≡ false → set_has (set_of regs) r ≡ false
 unfolding set_has
 set_of-lacks r regs lacks =
-    elim (is_of_machine r) as (λ b. is_of_machine r ≡ b → (b && eqb (bit_at (set_of regs).bits (bit_of r.bank r.number)) 1) ≡ false) [
-      | true ↦ λ is. ap (λ n. eqb n 1) (set_of-lacks_bit r regs is lacks)
-      | false ↦ λ is. refl
+    elim r.symbolic as (λ b. r.symbolic ≡ b → (not b && (eqb (bit_at (set_of regs).bits (bit_of r.bank r.number)) 1 && is_in_bank r)) ≡ false) [
+      | true ↦ λ symbolic. refl
+      | false ↦ λ concrete.
+          elim (is_in_bank r) as (λ b. is_in_bank r ≡ b → (eqb (bit_at (set_of regs).bits (bit_of r.bank r.number)) 1 && b) ≡ false) [
+            | true ↦ λ within. ap (λ n. eqb n 1 && true) (set_of-lacks_bit r regs (both (not r.symbolic) (is_in_bank r) (ap not concrete) within) lacks)
+            | false ↦ λ outside. neither (eqb (bit_at (set_of regs).bits (bit_of r.bank r.number)) 1)
+          ] refl
     ] refl
+  where
+    neither : (b : Bool) → (b && false) ≡ false
+    neither true = refl
+    neither false = refl

@@ -20,13 +20,17 @@ bank_size Vector = 32
 bank_size Flags = 1
 bank_size Stack = 1
 
+-- Has the bank of a register one of its number?
+abbrev pub is_in_bank : Reg → Bool
+is_in_bank r = nat_lt r.number (bank_size r.bank)
+
 -- Is a register one of the machine: not symbolic, and with a number that its bank has?
 abbrev pub is_of_machine : Reg → Bool
-is_of_machine r = not r.symbolic && nat_lt r.number (bank_size r.bank)
+is_of_machine r = not r.symbolic && is_in_bank r
 
 -- Is a register in a set? One that isn't of the machine is in none.
 unfoldable pub set_has : RegSet → Reg → Bool
-set_has set r = is_of_machine r && bit_at set.bits (bit_of r.bank r.number) == 1
+set_has set r = not r.symbolic && (bit_at set.bits (bit_of r.bank r.number) == 1 && is_in_bank r)
 
 -- a register beside those of a set, where it is of the machine
 abbrev pub with_reg : Reg → RegSet → RegSet
