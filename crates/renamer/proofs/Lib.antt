@@ -7,3 +7,15 @@ pub mod OrderShare
 pub mod OrderStep
 pub mod OrderRun
 pub mod OrderKept
+pub mod OwnTests
+pub mod OwnFlow
+pub mod LegalityRules
+pub mod LegalityFaithful
+pub mod LegalityFinals
+pub mod LegalityValid
+pub mod LegalityCarries
+pub mod StraightNumbers
+pub mod StraightSets
+pub mod StraightPosed
+pub mod StraightLeaves
+pub mod Adding
