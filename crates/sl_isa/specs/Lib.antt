@@ -1,0 +1,2 @@
+pub mod ThreeForms
+pub mod Steps

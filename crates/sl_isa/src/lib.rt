@@ -1,0 +1,7 @@
+//! Instructions: reading and printing.
+#![tactic(auto)]
+
+pub mod three_forms;
+
+pub use sl_model::instruction::{Access, ArchName, FormInfo, Instr, Outs};
+pub use sl_model::register::{Bank, Reg, RegSet};
