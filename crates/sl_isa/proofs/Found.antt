@@ -40,19 +40,19 @@ Has-flat_map : {A B : Type 0} (f : A → List B) (xs : List A) (x : A) (y : B) �
 Has-flat_map f [] x y h k = absurd h
 Has-flat_map f (z ∷ xs) x y h k =
     ⊎_elim
-        (λ (e : x ≡ z). Has-append_left y (f z) (flat_map f xs) (subst (λ v. Has y (f v)) e k))
-        (λ (r : Has x xs). Has-append_right y (f z) (flat_map f xs) (Has-flat_map f xs x y r k))
-        h
+    (λ (e : x ≡ z). Has-append_left y (f z) (flat_map f xs) (subst (λ v. Has y (f v)) e k))
+    (λ (r : Has x xs). Has-append_right y (f z) (flat_map f xs) (Has-flat_map f xs x y r k))
+    h
 
 Has-flat_map_from : {A B : Type 0} (f : A → List B) (xs : List A) (y : B) → Has y (flat_map f xs) → IsInPiece f xs y
 Has-flat_map_from f [] y h = absurd h
 Has-flat_map_from f (z ∷ xs) y h =
     ⊎_elim
-        (λ (l : Has y (f z)). record { x = z; source = inl refl; piece = l })
-        (λ (r : Has y (flat_map f xs)).
-            let deeper = Has-flat_map_from f xs y r in
-            record { x = deeper.x; source = inr deeper.source; piece = deeper.piece })
-        (Has-append y (f z) (flat_map f xs) h)
+    (λ (l : Has y (f z)). record { x = z; source = inl refl; piece = l })
+    (λ (r : Has y (flat_map f xs)).
+    let deeper = Has-flat_map_from f xs y r in
+    record { x = deeper.x; source = inr deeper.source; piece = deeper.piece })
+    (Has-append y (f z) (flat_map f xs) h)
 
 pub record IsImage {A B : Type 0} (f : A → B) (xs : List A) (y : B) : Type 0 where
   pub x : A
@@ -67,11 +67,11 @@ Has-map_from : {A B : Type 0} (f : A → B) (xs : List A) (y : B) → Has y (map
 Has-map_from f [] y h = absurd h
 Has-map_from f (z ∷ xs) y h =
     ⊎_elim
-        (λ (e : y ≡ f z). record { x = z; source = inl refl; image = e })
-        (λ (r : Has y (map f xs)).
-            let deeper = Has-map_from f xs y r in
-            record { x = deeper.x; source = inr deeper.source; image = deeper.image })
-        h
+    (λ (e : y ≡ f z). record { x = z; source = inl refl; image = e })
+    (λ (r : Has y (map f xs)).
+    let deeper = Has-map_from f xs y r in
+    record { x = deeper.x; source = inr deeper.source; image = deeper.image })
+    h
 
 less_or_same : (n k : ℕ) → n < suc k → (n < k) ⊎ (n ≡ k)
 less_or_same n k h = grind arith
@@ -82,18 +82,18 @@ unfolding below
 Has-below n zero h = absurd (omega arith)
 Has-below n (suc k) h =
     ⊎_elim
-        (λ (l : n < k). Has-append_left n (below k) (k ∷ []) (Has-below n k l))
-        (λ (e : n ≡ k). Has-append_right n (below k) (k ∷ []) (inl e))
-        (less_or_same n k h)
+    (λ (l : n < k). Has-append_left n (below k) (k ∷ []) (Has-below n k l))
+    (λ (e : n ≡ k). Has-append_right n (below k) (k ∷ []) (inl e))
+    (less_or_same n k h)
 
 Has-below_from : (n k : ℕ) → Has n (below k) → n < k
 unfolding below
 Has-below_from n zero h = absurd h
 Has-below_from n (suc k) h =
     ⊎_elim
-        (λ (l : Has n (below k)). let deeper : n < k = Has-below_from n k l in omega arith)
-        (λ (last : Has n (k ∷ [])). ⊎_elim (λ (e : n ≡ k). omega arith) (λ (none : ⊥). absurd none) last)
-        (Has-append n (below k) (k ∷ []) h)
+    (λ (l : Has n (below k)). let deeper : n < k = Has-below_from n k l in omega arith)
+    (λ (last : Has n (k ∷ [])). ⊎_elim (λ (e : n ≡ k). omega arith) (λ (none : ⊥). absurd none) last)
+    (Has-append n (below k) (k ∷ []) h)
 
 -- all of them are the plain ones
 Has-all_plain : (p : Plain) → IsPlain p → Has p all_plain
@@ -112,10 +112,11 @@ Has-all_plain_from p h =
     let left = Has-flat_map_from _ (below 31) p to.piece in
     let right = Has-map_from _ (below 31) p left.piece in
     let made : IsPlain (record { form = form.x; to = to.x; left = left.x; right = right.x }) = record {
-        form = Has-below_from form.x 3 form.source;
-        to = Has-below_from to.x 31 to.source;
-        left = Has-below_from left.x 31 left.source;
-        right = Has-below_from right.x 31 right.source } in
+      form = Has-below_from form.x 3 form.source;
+      to = Has-below_from to.x 31 to.source;
+      left = Has-below_from left.x 31 left.source;
+      right = Has-below_from right.x 31 right.source;
+    } in
     subst IsPlain (sym right.image) made
 
 -- what `find` finds stands in the list and passes
@@ -127,13 +128,13 @@ find_from : {A : Type 0} (test : A → Bool) (xs : List A) (x : A) → find test
 find_from test [] x e = absurd cc
 find_from test (y ∷ xs) x e =
     ⊎_elim
-        (λ (passes : test y ≡ true).
-            let same : y ≡ x = same_Some _ _ (sym (ap (λ b. cond b (Some y) (find test xs)) passes) ∙ e) in
-            record { here = inl (sym same); passes = subst (λ v. test v ≡ true) same passes })
-        (λ (fails : test y ≡ false).
-            let deeper = find_from test xs x (sym (ap (λ b. cond b (Some y) (find test xs)) fails) ∙ e) in
-            record { here = inr deeper.here; passes = deeper.passes })
-        (cases_Bool (test y))
+    (λ (passes : test y ≡ true).
+    let same : y ≡ x = same_Some _ _ (sym (ap (λ b. cond b (Some y) (find test xs)) passes) ∙ e) in
+    record { here = inl (sym same); passes = subst (λ v. test v ≡ true) same passes })
+    (λ (fails : test y ≡ false).
+    let deeper = find_from test xs x (sym (ap (λ b. cond b (Some y) (find test xs)) fails) ∙ e) in
+    record { here = inr deeper.here; passes = deeper.passes })
+    (cases_Bool (test y))
 
 passes_and_fails : (b : Bool) → b ≡ true → b ≡ false → ⊥
 passes_and_fails b p q = cc
@@ -142,12 +143,12 @@ find_some : {A : Type 0} (test : A → Bool) (xs : List A) (x : A) → Has x xs 
 find_some test [] x h t = absurd h
 find_some {A} test (z ∷ xs) x h t =
     ⊎_elim
-        (λ (passes : test z ≡ true). (z, ap (λ b. cond b (Some z) (find test xs)) passes))
-        (λ (fails : test z ≡ false).
-            let rest : Has x xs = ⊎_elim (λ (e : x ≡ z). absurd (passes_and_fails (test z) (subst (λ v. test v ≡ true) e t) fails)) (λ (r : Has x xs). r) h in
-            let deeper = find_some test xs x rest t in
-            (deeper.0, ap (λ b. cond b (Some z) (find test xs)) fails ∙ deeper.1))
-        (cases_Bool (test z))
+    (λ (passes : test z ≡ true). (z, ap (λ b. cond b (Some z) (find test xs)) passes))
+    (λ (fails : test z ≡ false).
+    let rest : Has x xs = ⊎_elim (λ (e : x ≡ z). absurd (passes_and_fails (test z) (subst (λ v. test v ≡ true) e t) fails)) (λ (r : Has x xs). r) h in
+    let deeper = find_some test xs x rest t in
+    (deeper.0, ap (λ b. cond b (Some z) (find test xs)) fails ∙ deeper.1))
+    (cases_Bool (test z))
 
 -- what is found is what the steps read
 found_is_read : (line : List ℕ) (p : Plain) → read_plain line ≡ Some p → parse line ≡ Some p

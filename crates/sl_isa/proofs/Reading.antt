@@ -28,7 +28,7 @@ pub behind-append : (word rest : List ℕ) → behind word (word ++ rest) ≡ So
 unfolding behind
 behind-append word rest =
     let front : bytes_eq word (take (length word) (word ++ rest)) ≡ true =
-        (bytes_eq-Decides word (take (length word) (word ++ rest))).1 (sym (take-append_seam word rest)) in
+    (bytes_eq-Decides word (take (length word) (word ++ rest))).1 (sym (take-append_seam word rest)) in
     ap (λ b. cond b (Some (drop (length word) (word ++ rest))) None) front ∙ ap Some (drop-append_seam word rest)
 
 -- what a choice between words gives
@@ -45,13 +45,13 @@ pub form_at_is : (text : List ℕ) (f : Numbered) → form_at text ≡ Some f �
 unfolding form_at
 form_at_is text f e =
     form_or_is 0 (behind (codes "add ") text) (form_or 1 (behind (codes "sub ") text) (form_or 2 (behind (codes "eor ") text) None)) f (IsFormAt text)
-        (λ rest e'. record { within = omega arith; text_is = behind_is (codes "add ") text rest e' })
-        (form_or_is 1 (behind (codes "sub ") text) (form_or 2 (behind (codes "eor ") text) None) f (IsFormAt text)
-            (λ rest e'. record { within = omega arith; text_is = behind_is (codes "sub ") text rest e' })
-            (form_or_is 2 (behind (codes "eor ") text) None f (IsFormAt text)
-                (λ rest e'. record { within = omega arith; text_is = behind_is (codes "eor ") text rest e' })
-                (λ e'. cc)))
-        e
+    (λ rest e'. record { within = omega arith; text_is = behind_is (codes "add ") text rest e' })
+    (form_or_is 1 (behind (codes "sub ") text) (form_or 2 (behind (codes "eor ") text) None) f (IsFormAt text)
+    (λ rest e'. record { within = omega arith; text_is = behind_is (codes "sub ") text rest e' })
+    (form_or_is 2 (behind (codes "eor ") text) None f (IsFormAt text)
+    (λ rest e'. record { within = omega arith; text_is = behind_is (codes "eor ") text rest e' })
+    (λ e'. cc)))
+    e
 
 pub form_at-printed : (form : ℕ) (rest : List ℕ) → form < 3 → form_at (mnemonic form ++ (32 ∷ rest)) ≡ Some (record { number = form; rest = rest })
 unfolding form_at behind
@@ -67,8 +67,8 @@ decimal_two a b low high ones =
     let rest : (10 * a + b) % 10 ≡ b = omega arith in
     let small : 10 * a + b < 2 ^ 64 = omega arith in
     decimal_step (10 * a + b) (omega arith) small
-        ∙ (ap (λ n. decimal n ++ (48 + (10 * a + b) % 10) ∷ []) tens
-        ∙ (ap (λ m. decimal a ++ (48 + m) ∷ []) rest ∙ ap (λ ds. ds ++ (48 + b) ∷ []) (decimal_digit a high)))
+    ∙ (ap (λ n. decimal n ++ (48 + (10 * a + b) % 10) ∷ []) tens
+    ∙ (ap (λ m. decimal a ++ (48 + m) ∷ []) rest ∙ ap (λ ds. ds ++ (48 + b) ∷ []) (decimal_digit a high)))
 
 pub record IsNumberAt (text : List ℕ) (r : Numbered) : Type 0 where
   pub within : r.number < 31
@@ -114,7 +114,7 @@ two_digits_is first ones text r h o e =
     let thirty : 10 * first + ones ≤ 30 = at_least _ _ high.0 in
     let positive : 0 < first = omega arith in
     let found : IsNumberAt ((48 + first) ∷ (48 + ones) ∷ text) (record { number = 10 * first + ones; rest = text }) =
-        record { within = omega arith; text_is = ap (λ ds. ds ++ text) (sym (decimal_two first ones positive h o)) } in
+    record { within = omega arith; text_is = ap (λ ds. ds ++ text) (sym (decimal_two first ones positive h o)) } in
     subst (IsNumberAt ((48 + first) ∷ (48 + ones) ∷ text)) (same_Some _ _ high.1) found
 
 second_digit_is : (first : ℕ) (text : List ℕ) (r : Numbered) → first < 10 → second_digit first text ≡ Some r → IsNumberAt ((48 + first) ∷ text) r
@@ -124,16 +124,16 @@ second_digit_is first (c ∷ text) r h e =
     let one : Option Numbered = Some (record { number = first; rest = c ∷ text }) in
     let two : Option Numbered = two_digits (10 * first + (c - 48)) text in
     ⊎_elim
-        (λ (yes' : is_ascii_digit c ≡ true).
-            let range = digit_from c yes' in
-            let ones : c - 48 < 10 = omega (arith, range.0, range.1) in
-            let back : 48 + (c - 48) ≡ c = omega (arith, range.0) in
-            let e' : two ≡ Some r = sym (ap (λ b. cond b two one) yes') ∙ e in
-            subst (λ (v : ℕ). IsNumberAt ((48 + first) ∷ v ∷ text) r) back (two_digits_is first (c - 48) text r h ones e'))
-        (λ (no' : is_ascii_digit c ≡ false).
-            let e' : one ≡ Some r = sym (ap (λ b. cond b two one) no') ∙ e in
-            subst (IsNumberAt ((48 + first) ∷ c ∷ text)) (same_Some _ _ e') (one_digit_is first (c ∷ text) h))
-        (cases_Bool (is_ascii_digit c))
+    (λ (yes' : is_ascii_digit c ≡ true).
+    let range = digit_from c yes' in
+    let ones : c - 48 < 10 = omega (arith, range.0, range.1) in
+    let back : 48 + (c - 48) ≡ c = omega (arith, range.0) in
+    let e' : two ≡ Some r = sym (ap (λ b. cond b two one) yes') ∙ e in
+    subst (λ (v : ℕ). IsNumberAt ((48 + first) ∷ v ∷ text) r) back (two_digits_is first (c - 48) text r h ones e'))
+    (λ (no' : is_ascii_digit c ≡ false).
+    let e' : one ≡ Some r = sym (ap (λ b. cond b two one) no') ∙ e in
+    subst (IsNumberAt ((48 + first) ∷ c ∷ text)) (same_Some _ _ e') (one_digit_is first (c ∷ text) h))
+    (cases_Bool (is_ascii_digit c))
 
 pub number_at_is : (text : List ℕ) (r : Numbered) → number_at text ≡ Some r → IsNumberAt text r
 unfolding number_at
@@ -161,8 +161,8 @@ second_digit-one first ones rest h low high =
     let not_high : nat_lt 30 (10 * first + ones) ≡ false = below_not _ _ (omega arith) in
     let made : Option Numbered = Some (record { number = 10 * first + ones; rest = rest }) in
     ap (λ b. cond b (two_digits (10 * first + (48 + ones - 48)) rest) (Some (record { number = first; rest = (48 + ones) ∷ rest }))) (digit_made ones h)
-        ∙ (ap (λ v. two_digits (10 * first + v) rest) back
-        ∙ (ap (λ b. cond b None (cond (nat_lt 30 (10 * first + ones)) None made)) not_low ∙ ap (λ b. cond b None made) not_high))
+    ∙ (ap (λ v. two_digits (10 * first + v) rest) back
+    ∙ (ap (λ b. cond b None (cond (nat_lt 30 (10 * first + ones)) None made)) not_low ∙ ap (λ b. cond b None made) not_high))
 
 number_at-first : (first : ℕ) (rest : List ℕ) → first < 10 → number_at ((48 + first) ∷ rest) ≡ second_digit first rest
 unfolding number_at
@@ -178,20 +178,20 @@ two_digits-printed : (a b : ℕ) (rest : List ℕ) → 0 < a → b < 10 → 10 *
 two_digits-printed a b rest low ones high =
     let tens : a < 10 = omega arith in
     ap (λ ds. number_at (ds ++ rest)) (decimal_two a b low tens ones)
-        ∙ (number_at-first a ((48 + b) ∷ rest) tens ∙ second_digit-one a b rest ones (omega arith) high)
+    ∙ (number_at-first a ((48 + b) ∷ rest) tens ∙ second_digit-one a b rest ones (omega arith) high)
 
 pub number_at-printed : (n c : ℕ) (rest : List ℕ) → n < 31 → is_ascii_digit c ≡ false → number_at (decimal n ++ (c ∷ rest)) ≡ Some (record { number = n; rest = c ∷ rest })
 number_at-printed n c rest h other =
     ⊎_elim
-        (λ (small : n < 10). one_digit-printed n c rest small other)
-        (λ (large : 10 ≤ n).
-            let split : 10 * (n / 10) + n % 10 ≡ n = omega arith in
-            let low : 0 < n / 10 = omega arith in
-            let ones : n % 10 < 10 = omega arith in
-            let high : 10 * (n / 10) + n % 10 < 31 = omega arith in
-            subst (λ (v : ℕ). number_at (decimal v ++ (c ∷ rest)) ≡ Some (record { number = v; rest = c ∷ rest })) split
-                (two_digits-printed (n / 10) (n % 10) (c ∷ rest) low ones high))
-        (below_or n 10)
+    (λ (small : n < 10). one_digit-printed n c rest small other)
+    (λ (large : 10 ≤ n).
+    let split : 10 * (n / 10) + n % 10 ≡ n = omega arith in
+    let low : 0 < n / 10 = omega arith in
+    let ones : n % 10 < 10 = omega arith in
+    let high : 10 * (n / 10) + n % 10 < 31 = omega arith in
+    subst (λ (v : ℕ). number_at (decimal v ++ (c ∷ rest)) ≡ Some (record { number = v; rest = c ∷ rest })) split
+    (two_digits-printed (n / 10) (n % 10) (c ∷ rest) low ones high))
+    (below_or n 10)
 
 -- the line with its end beside the last register
 line_flat : (m to left right : List ℕ) →
@@ -207,9 +207,9 @@ register_at_is : (text : List ℕ) (r : Numbered) → register_at text ≡ Some 
 unfolding register_at
 register_at_is text r e =
     option_and_then_some number_at (behind (codes "x") text) r e
-        (λ digits found read.
-            let number = number_at_is digits r read in
-            record { within = number.within; text_is = behind_is (codes "x") text digits found ∙ ap (λ v. codes "x" ++ v) number.text_is })
+    (λ digits found read.
+    let number = number_at_is digits r read in
+    record { within = number.within; text_is = behind_is (codes "x") text digits found ∙ ap (λ v. codes "x" ++ v) number.text_is })
 
 register_at-printed : (n c : ℕ) (rest : List ℕ) → n < 31 → is_ascii_digit c ≡ false →
     register_at (codes "x" ++ (decimal n ++ (c ∷ rest))) ≡ Some (record { number = n; rest = c ∷ rest })
@@ -250,21 +250,22 @@ parse_is line p e =
     option_and_then_some _ (register_at left_text) p e (λ left left_found e.
     option_and_then_some _ (behind (codes ", ") left.rest) p e (λ right_text right_text_found e.
     option_and_then_some _ (register_at right_text) p e (λ right right_found e.
-        let f = form_at_is body form form_found in
-        let t = register_at_is form.rest to to_found in
-        let l = register_at_is left_text left left_found in
-        let r = register_at_is right_text right right_found in
-        let end = ended_is right.rest (record { form = form.number; to = to.number; left = left.number; right = right.number }) p e in
-        let read : IsRead line (record { form = form.number; to = to.number; left = left.number; right = right.number }) = record {
-            line_is =
-                line_from_parts line (mnemonic form.number) (decimal to.number) (decimal left.number) (decimal right.number)
-                    body form.rest to.rest left_text left.rest right_text right.rest
-                    (behind_is (codes "        ") line body body_found) f.text_is t.text_is
-                    (behind_is (codes ", ") to.rest left_text left_text_found) l.text_is
-                    (behind_is (codes ", ") left.rest right_text right_text_found) r.text_is end.0
-                ∙ sym (body_line-flat (record { form = form.number; to = to.number; left = left.number; right = right.number }));
-            plain = record { form = f.within; to = t.within; left = l.within; right = r.within } } in
-        subst (IsRead line) end.1 read)))))))
+    let f = form_at_is body form form_found in
+    let t = register_at_is form.rest to to_found in
+    let l = register_at_is left_text left left_found in
+    let r = register_at_is right_text right right_found in
+    let end = ended_is right.rest (record { form = form.number; to = to.number; left = left.number; right = right.number }) p e in
+    let read : IsRead line (record { form = form.number; to = to.number; left = left.number; right = right.number }) = record {
+      line_is =
+          line_from_parts line (mnemonic form.number) (decimal to.number) (decimal left.number) (decimal right.number)
+          body form.rest to.rest left_text left.rest right_text right.rest
+          (behind_is (codes "        ") line body body_found) f.text_is t.text_is
+          (behind_is (codes ", ") to.rest left_text left_text_found) l.text_is
+          (behind_is (codes ", ") left.rest right_text right_text_found) r.text_is end.0
+          ∙ sym (body_line-flat (record { form = form.number; to = to.number; left = left.number; right = right.number }));
+      plain = record { form = f.within; to = t.within; left = l.within; right = r.within };
+    } in
+    subst (IsRead line) end.1 read)))))))
 
 then_is : {A B : Type 0} (f : A → Option B) (o : Option A) (x : A) (y : Option B) → o ≡ Some x → f x ≡ y → option_and_then f o ≡ y
 then_is f o x y found next = ap (option_and_then f) found ∙ next

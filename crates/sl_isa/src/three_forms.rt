@@ -7,10 +7,6 @@ ghost use Rattle.sl_isa.specs.ThreeForms.{Plain, IsPlain, mnemonic, number_of, s
 use crate::{Bank, Instr, Reg};
 use std::fmt;
 
-
-
-
-
 /// Reads a whole line, with its line feed, as one of the three instructions; `number` is its line number. There is
 /// none where the line isn't exactly one that is printed: eight spaces, the instruction, a line feed.
 #[tactic(auto, using(crate::proofs::Found::answer_value, crate::proofs::Found::answer_spelled, crate::proofs::Found::answer_other))]
@@ -26,15 +22,13 @@ pub fn read_line(line: &str, number: u32) -> Option<Instr>
 #[tactic(auto, using(crate::proofs::Found::read_plain_printed))]
 pub fn printed_is_read()
     ensures { (p : Plain) → IsPlain p → read_plain (body_line p) ≡ Some p }
-{
-}
+{}
 
 /// What is read is the line of what was read: nothing else is read.
 #[tactic(auto, using(crate::proofs::Found::read_plain_line, crate::proofs::Found::read_plain_IsPlain))]
 pub fn read_is_printed()
     ensures { (line : List ℕ) (p : Plain) → read_plain line ≡ Some p → (line ≡ body_line p) × IsPlain p }
-{
-}
+{}
 
 // A number that was read, and the text behind it.
 #[derive(Clone, Copy)]
@@ -73,10 +67,16 @@ fn read_second_digit(first: u16, text: &[u8]) -> Option<Numbered>
     ensures { MatchOption result (second_digit first text.now ≡ None) (λ r. second_digit first text.now ≡ Some (record { number = r.number; rest = r.rest.now })) }
 {
     let Some((second, rest)) = text.split_first() else {
-        return Some(Numbered { number: first, rest: text });
+        return Some(Numbered {
+            number: first,
+            rest: text,
+        });
     };
     if !second.is_ascii_digit() {
-        return Some(Numbered { number: first, rest: text });
+        return Some(Numbered {
+            number: first,
+            rest: text,
+        });
     }
     let number = 10 * first + u16::from(*second - b'0');
     if number < 10 || 30 < number {
@@ -109,7 +109,11 @@ fn read_register(text: &[u8]) -> Option<Numbered>
 fn three_registers(form: u16, to: u16, left: u16, right: u16, line: u32) -> Instr
     ensures { result ≡ plain_instr line (record { form = form; to = to; left = left; right = right }) }
 {
-    let general = |number| Some(Reg { bank: Bank::General, symbolic: false, number });
+    let general = |number| Some(Reg {
+        bank: Bank::General,
+        symbolic: false,
+        number,
+    });
     Instr {
         form,
         wide: false,

@@ -9,6 +9,7 @@ use Rattle.sl_model.specs.declared.instruction.Instr.{Instr}
 use Rattle.sl_model.specs.Register.{same_reg}
 use Rattle.sl_model.specs.RegSets.{set_has, set_count}
 use Rattle.sl_model.specs.Source.{operands, outputs, padded}
+use Rattle.sl_model.specs.Machine.{space_of, limit_of}
 use Rattle.sl_model.specs.Isa.{Isa, Op, op_of}
 use Rattle.sl_model.specs.Exec.{has_access, is_load, is_store}
 use Rattle.sl_model.specs.Body.{all_differ}
@@ -72,6 +73,11 @@ IsBelow (Some k) limit = k < limit
 
 -- What is asked of an instruction set.
 pub record IsLawful (isa : Isa) : Type 0 where
+  -- addresses and registers are those of the architecture
+  pub spaces : isa.space ≡ space_of isa.name
+  pub limits : (bank : Bank) → isa.limit bank ≡ limit_of isa.name bank
+  -- each instruction is of a form of the table
+  pub known : (o : Op) → isa.valid o ≡ true → o.form < isa.forms
   -- an access is far smaller than the space of addresses, and so are offsets
   pub space : 2 ^ 32 ≤ isa.space
   pub sizes : (form : ℕ) → (isa.info form).size ≤ 32

@@ -3,6 +3,7 @@ pub mod Source
 pub mod Cycles
 pub mod Text
 pub mod State
+pub mod Machine
 pub mod Isa
 pub mod Exec
 pub mod Body
