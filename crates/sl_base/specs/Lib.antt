@@ -1,0 +1,6 @@
+pub mod Faults
+pub mod Files
+pub mod Host
+pub mod Memory
+pub mod Reading
+pub mod Rows
