@@ -1,2 +1,3 @@
 pub mod StateCode
 pub mod Fits
+pub mod Moves

@@ -1,7 +1,9 @@
 //! Machine states, and what instructions do to them.
 #![tactic(auto)]
 
+pub mod run;
 pub mod state;
 
 pub use sl_base::NoMemory;
+
 pub use state::State;

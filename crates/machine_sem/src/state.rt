@@ -43,6 +43,7 @@ impl State {
     }
 
     /// The value of a register, and 0 where it was never set. That of the zero register of AArch64 is 0.
+    #[tactic(auto, unfolding(sl_model::specs::State::read))]
     pub fn reg(&self, reg: Reg) -> u128
         ensures { result ≡ read self.now reg }
     {
@@ -57,13 +58,14 @@ impl State {
         ensures ok { OnOk result (self.new ≡ write reg value self.old) }
         ensures err { OnErr result (self.new ≡ self.old) }
     {
-        if self.regs.insert(key(reg), value).is_err() {
+        let Ok(_) = self.regs.insert(key(reg), value) else {
             return Err(NoMemory);
-        }
+        };
         Ok(())
     }
 
     /// The byte at an address, and 0 where it was never set.
+    #[tactic(auto, unfolding(sl_model::specs::State::byte))]
     pub fn byte(&self, address: u64) -> u8
         ensures { result ≡ byte self.now.memory address }
     {
@@ -75,9 +77,9 @@ impl State {
         ensures ok { OnOk result (self.new ≡ record { regs = self.old.regs; memory = put address value self.old.memory }) }
         ensures err { OnErr result (self.new ≡ self.old) }
     {
-        if self.memory.insert(address, value).is_err() {
+        let Ok(_) = self.memory.insert(address, value) else {
             return Err(NoMemory);
-        }
+        };
         Ok(())
     }
 
@@ -97,9 +99,9 @@ impl State {
             self.regs.remove(&key(reg));
             return;
         };
-        if self.regs.insert(key(reg), value).is_err() {
-            unreachable!();
-        }
+        let Ok(_) = self.regs.insert(key(reg), value) else {
+            unreachable!()
+        };
     }
 
     // The byte that an address was set to.
@@ -118,9 +120,9 @@ impl State {
             self.memory.remove(&address);
             return;
         };
-        if self.memory.insert(address, value).is_err() {
-            unreachable!();
-        }
+        let Ok(_) = self.memory.insert(address, value) else {
+            unreachable!()
+        };
     }
 }
 
