@@ -2,12 +2,12 @@
 use Rattle.std.proofs.Common.{◌≡◌, ℕ, zero, suc, ◌+◌, ◌%◌, List, [], ◌∷◌, refl, sym, ap, ◌∙◌}
 use Rattle.std.specs.Ordering.{nat_cmp}
 use Rattle.std.specs.FinMap.{FinMap}
-use Rattle.std.proofs.Math.Nat.{mod-mod}
+use Rattle.std.proofs.Math.Nat.{mod-mod, mod-add-mod}
 use Rattle.sl_model.specs.State.{byte, put, load, store}
 
 -- the address behind a wrapped one
 pub next_wrapped : (s a : ℕ) → (a % s + 1) % s ≡ (a + 1) % s
-next_wrapped s a = ?
+next_wrapped s a = mod-add-mod a s 1
 
 pub load_wrapped : (s : ℕ) (m : FinMap nat_cmp ℕ) (a n : ℕ) → load s m (a % s) n ≡ load s m a n
 unfolding load
@@ -30,3 +30,8 @@ store_wrapped s a (b ∷ bytes) m =
 pub load_next : (s : ℕ) (m : FinMap nat_cmp ℕ) (a b n : ℕ) → b ≡ (a + 1) % s → byte m (a % s) ∷ load s m b n ≡ load s m a (suc n)
 unfolding load
 load_next s m a b n is = ap (λ rest. byte m (a % s) ∷ rest) (ap (λ at. load s m at n) is ∙ load_wrapped s m (a + 1) n)
+
+-- bytes that are stored one after the other
+pub store_next : (s a b c : ℕ) (bytes : List ℕ) (m : FinMap nat_cmp ℕ) → b ≡ (a + 1) % s → store s b bytes (put (a % s) c m) ≡ store s a (c ∷ bytes) m
+unfolding store
+store_next s a b c bytes m is = ap (λ at. store s at bytes (put (a % s) c m)) is ∙ store_wrapped s (a + 1) bytes (put (a % s) c m)
