@@ -92,3 +92,5 @@ pub record IsLawful (isa : Isa) : Type 0 where
   pub values_fit : (i : Instr) (ins loaded : List ℕ) → IsValid isa i → length ins ≡ length (operands i) → length loaded ≡ load_size isa i.form → fit isa (operands i) ins ≡ true → fit isa (outputs i) (isa.values (op_of i) ins loaded) ≡ true
   -- a store stores as many bytes as its access has
   pub stored_count : (i : Instr) (ins : List ℕ) → IsValid isa i → is_store (isa.info i.form) ≡ true → length ins ≡ length (operands i) → length (isa.stored (op_of i) ins) ≡ (isa.info i.form).size
+  -- and they are bytes
+  pub stored_fit : (i : Instr) (ins : List ℕ) → IsValid isa i → is_store (isa.info i.form) ≡ true → length ins ≡ length (operands i) → list_all (λ b. nat_lt b 256) (isa.stored (op_of i) ins) ≡ true
