@@ -1,5 +1,5 @@
 -- What a step does is what `exec` says.
-use Rattle.std.proofs.Common.{◌≡◌, ℕ, zero, suc, ◌+◌, ◌≤◌, Bool, true, false, cond, not, List, [], ◌∷◌, length, take, map, Option, Some, None, refl, sym, ap, subst, ◌∙◌, arith}
+use Rattle.std.proofs.Common.{◌≡◌, ℕ, zero, suc, ◌+◌, ◌≤◌, ◌<◌, Bool, true, false, cond, not, List, [], ◌∷◌, length, take, map, Option, Some, None, IfSome, Result, Ok, Err, OnOk, OnErr, slice_index_or, add-one, refl, sym, ap, subst, ◌∙◌, arith}
 use Rattle.std.proofs.lemmas.Bool.{true≢false}
 use Rattle.std.specs.Prelude.{if◌then◌else◌}
 use Rattle.std.specs.Ordering.{nat_cmp}
@@ -7,12 +7,13 @@ use Rattle.std.specs.List.{filter_map}
 use Rattle.std.specs.FinMap.{FinMap}
 use Rattle.sl_model.specs.declared.register.Reg.{Reg}
 use Rattle.sl_model.specs.declared.instruction.Access.{Access}
+use Rattle.sl_model.specs.declared.instruction.ArchName.{ArchName}
 use Rattle.sl_model.specs.declared.instruction.Instr.{Instr}
 use Rattle.sl_model.specs.Source.{operands, outputs, padded}
 use Rattle.sl_model.specs.State.{State, write, write_all, load, store}
 use Rattle.sl_model.specs.Machine.{space_of}
 use Rattle.sl_model.specs.Isa.{Isa, op_of}
-use Rattle.sl_model.specs.Exec.{has_access, is_load, is_store, address_of, loaded_by, values_of, memory_after, operand_values, exec}
+use Rattle.sl_model.specs.Exec.{has_access, is_load, is_store, address_of, loaded_by, values_of, memory_after, operand_values, exec, run}
 use Rattle.sl_model.specs.Lawful.{IsValid, IsLawful, load_size}
 use Rattle.sl_isa.specs.Arch.{padded_values, access_of, stored_by, AreOperands}
 use Rattle.machine_sem.specs.Moves.{loaded_at, stored_at}
@@ -114,3 +115,59 @@ module _ (isa : Isa) (lawful : IsLawful isa) (i : Instr) (valid : IsValid isa i)
       let values = isa.values (op_of i) ins (loaded_by isa i ins s.memory) in
       let count : length values ≡ length (outputs i) = lawful.value_count i ins (loaded_by isa i ins s.memory) valid are.count (length-loaded_by ins s.memory) in
       write_padded 3 (outputs i) values _ count (subst (λ n. n ≤ 3) (sym count) outputs_few)
+
+  access_size_cases : (has is_store : Bool) (address size : ℕ) → size ≤ 32 → IfSome (access_if has is_store address size) (λ a. a.size ≤ 32)
+  access_size_cases true s address size h = h
+  access_size_cases false s address size h = tt
+
+  -- an access takes at most 32 bytes
+  pub access_size : (ins : List ℕ) (access : Option Access) → access ≡ access_of isa i ins → IfSome access (λ a. a.size ≤ 32)
+  unfolding access_of
+  access_size ins access is =
+      subst (λ a. IfSome a (λ a. a.size ≤ 32)) (sym is) (access_size_cases (has_access (isa.info i.form)) (isa.info i.form).store (address_of isa i ins) (isa.info i.form).size (lawful.sizes i.form))
+
+  -- what was loaded, of the operands' values and the access
+  pub loaded_from : (s : State) (name : ArchName) (ins loaded : List ℕ) (access : Option Access) → name ≡ isa.name → access ≡ access_of isa i ins → loaded ≡ loaded_at (space_of name) access s.memory → loaded ≡ loaded_by isa i ins s.memory
+  loaded_from s name ins loaded access named is from =
+      from ∙ ap (λ n. loaded_at (space_of n) access s.memory) named ∙ ap (λ a. loaded_at (space_of isa.name) a s.memory) is ∙ loaded_is ins s.memory
+
+  -- A step from what the architecture answered.
+  pub step_from : (s : State) (name : ArchName) (ins loaded regs bytes : List ℕ) (access : Option Access) → AreOperands isa i (operand_values i s) → name ≡ isa.name → ins ≡ operand_values i s → access ≡ access_of isa i ins → loaded ≡ loaded_at (space_of name) access s.memory
+      → regs ≡ padded_values 3 (isa.values (op_of i) ins loaded) → bytes ≡ padded_values 32 (stored_by isa i ins)
+      → write_all (outputs i) regs (record { regs = s.regs; memory = stored_at (space_of name) access bytes s.memory }) ≡ exec isa i s
+  step_from s name ins loaded regs bytes access are named read_are is from gives stores =
+      let given : List ℕ → List ℕ → List ℕ = λ xs bs. padded_values 3 (isa.values (op_of i) xs bs) in
+      let values : regs ≡ given (operand_values i s) (loaded_by isa i (operand_values i s) s.memory) =
+          gives ∙ ap (given ins) (loaded_from s name ins loaded access named is from) ∙ ap (λ xs. given xs (loaded_by isa i xs s.memory)) read_are in
+      let memory : stored_at (space_of name) access bytes s.memory ≡ memory_after isa i (operand_values i s) s.memory =
+          ap (λ b. stored_at (space_of name) access b s.memory) stores
+          ∙ ap (λ n. stored_at (space_of n) access (padded_values 32 (stored_by isa i ins)) s.memory) named
+          ∙ ap (λ a. stored_at (space_of isa.name) a (padded_values 32 (stored_by isa i ins)) s.memory) is
+          ∙ ap (λ xs. stored_at (space_of isa.name) (access_of isa i xs) (padded_values 32 (stored_by isa i xs)) s.memory) read_are
+          ∙ stored_is (operand_values i s) s.memory are in
+      let state_with : FinMap nat_cmp ℕ → State = λ m. record { regs = s.regs; memory = m } in
+      ap (λ r. write_all (outputs i) r (state_with (stored_at (space_of name) access bytes s.memory))) values
+      ∙ ap (λ m. write_all (outputs i) (given (operand_values i s) (loaded_by isa i (operand_values i s) s.memory)) (state_with m)) memory
+      ∙ step_is s are
+
+-- the length of what is padded
+pub length-padded_values : (n : ℕ) (values : List ℕ) → length (padded_values n values) ≡ n
+unfolding padded_values
+length-padded_values zero values = refl
+length-padded_values (suc n) [] = ap suc (length-padded_values n [])
+length-padded_values (suc n) (value ∷ values) = ap suc (length-padded_values n values)
+
+-- what holds of both ends of a call that left one of them
+pub either_way : {T E X : Type 0} (P : X → Type 0) (r : Result T E) (new ok err : X) → OnOk r (new ≡ ok) → OnErr r (new ≡ err) → P ok → P err → P new
+either_way P (Ok x) new ok err is_ok is_err at_ok at_err = subst P (sym is_ok) at_ok
+either_way P (Err e) new ok err is_ok is_err at_ok at_err = subst P (sym is_err) at_err
+
+one_more : (isa : Isa) (items : List Instr) (k : ℕ) (none : Instr) (s : State) → k < length items → run isa (take (suc k) items) s ≡ exec isa (slice_index_or items k none) (run isa (take k items) s)
+unfolding run
+one_more isa [] k none s h = absurd (none_below h)
+one_more isa (i ∷ items) zero none s h = refl
+one_more isa (i ∷ items) (suc k) none s h = one_more isa items k none (exec isa i s) (below_both h)
+
+-- one item more
+pub run_next : (isa : Isa) (items : List Instr) (k : ℕ) (none : Instr) (s : State) → k < length items → run isa (take (k + 1) items) s ≡ exec isa (slice_index_or items k none) (run isa (take k items) s)
+run_next isa items k none s h = ap (λ n. run isa (take n items) s) (add-one k) ∙ one_more isa items k none s h

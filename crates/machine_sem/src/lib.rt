@@ -6,4 +6,5 @@ pub mod state;
 
 pub use sl_base::NoMemory;
 
+pub use run::{run_list, step};
 pub use state::State;

@@ -1,5 +1,5 @@
 //! What instructions do to a state.
-ghost use Rattle.std.specs.Prelude.{◌≡◌, ◌+◌, ◌%◌, ◌≤◌, ◌<◌, ℕ, OnOk, OnErr, length, take, map};
+ghost use Rattle.std.specs.Prelude.{◌≡◌, ◌+◌, ◌%◌, ◌≤◌, ◌<◌, ℕ, OnOk, OnErr, IfSome, length, take, map};
 ghost use Rattle.std.specs.List.{filter_map, AllByRecursion};
 ghost use Rattle.sl_model.specs.State.{read, write_all, load, store};
 ghost use Rattle.sl_model.specs.Machine.{space_of};
@@ -111,5 +111,78 @@ fn store_bytes(state: &mut State, name: ArchName, address: u64, bytes: &[u8], ou
         state.put_back_byte(at, before);
         return Err(NoMemory);
     };
+    Ok(())
+}
+
+// What an access loads goes to the front of `bytes`; says how many bytes there are.
+#[tactic(auto, unfolding(crate::specs::Moves::loaded_at))]
+fn load_access(state: &State, name: ArchName, access: Option<Access>, bytes: &mut [u8]) -> usize
+    requires { IfSome access (λ a. a.size ≤ length bytes.old) }
+    ensures count { result ≤ length bytes.old }
+    ensures bytes { take result bytes.new ≡ loaded_at (space_of name) access state.now.memory }
+{
+    let Some(access) = access else {
+        return 0;
+    };
+    if access.store {
+        return 0;
+    }
+    let size = usize::from(access.size);
+    load_bytes(state, name, access.address, &mut bytes[..size]);
+    size
+}
+
+// Stores what an access takes of some bytes, and then gives registers their values. After `NoMemory` nothing has
+// changed.
+#[tactic(auto, unfolding(crate::specs::Moves::stored_at))]
+fn store_access(state: &mut State, name: ArchName, access: Option<Access>, bytes: &[u8], outputs: Outputs) -> Result<(), NoMemory>
+    requires { IfSome access (λ a. a.size ≤ length bytes.now) }
+    ensures ok { OnOk result (state.new ≡ write_all (filter_map (λ r. r) outputs.entry.regs.now) outputs.entry.values.now (record { regs = state.old.regs; memory = stored_at (space_of name) access bytes.now state.old.memory })) }
+    ensures err { OnErr result (state.new ≡ state.old) }
+{
+    let Some(access) = access else {
+        return write_outputs(state, outputs.regs, outputs.values);
+    };
+    if !access.store {
+        return write_outputs(state, outputs.regs, outputs.values);
+    }
+    store_bytes(state, name, access.address, &bytes[..usize::from(access.size)], outputs)
+}
+
+/// Does one instruction: it takes the values of its operands and the bytes that it loads from the state, and then
+/// stores its bytes and writes its outputs. After `NoMemory` nothing has changed.
+pub fn step<A: Arch>(arch: &A, instr: &Instr, state: &mut State) -> Result<(), NoMemory>
+    requires valid { IsValid A.isa instr.now }
+    requires fitting { Fits A.isa state.old }
+    ensures ok { OnOk result (state.new ≡ exec A.isa instr.now state.old) }
+    ensures err { OnErr result (state.new ≡ state.old) }
+    ensures fits { Fits A.isa state.new }
+{
+    let mut operands = [0; 4];
+    let count = read_operands(state, &instr.ins, &mut operands);
+    let ins = &operands[..count];
+    let name = arch.name();
+    let access = arch.access(instr, ins);
+    let mut bytes = [0; 32];
+    let size = load_access(state, name, access, &mut bytes);
+    let outs = arch.exec(instr, ins, &bytes[..size]);
+    let outputs = Outputs {
+        regs: &instr.outs,
+        values: &outs.regs,
+    };
+    store_access(state, name, access, &outs.bytes, outputs)
+}
+
+/// Does instructions one after the other. After `NoMemory` the state is the one behind some front of them.
+pub fn run_list<A: Arch>(arch: &A, items: &[Instr], state: &mut State) -> Result<(), NoMemory>
+    requires valid { AllByRecursion (IsValid A.isa) items.now }
+    requires fitting { Fits A.isa state.old }
+    ensures ok { OnOk result (state.new ≡ run A.isa items.now state.old) }
+    ensures err { OnErr result ((front : ℕ) × (front < length items.now) × (state.new ≡ run A.isa (take front items.now) state.old)) }
+    ensures fits { Fits A.isa state.new }
+{
+    for instr in items {
+        step(arch, instr, state)?;
+    }
     Ok(())
 }
