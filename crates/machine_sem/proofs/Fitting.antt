@@ -16,11 +16,11 @@ use Rattle.sl_model.specs.declared.instruction.ArchName.TheVariants.{Arm64, M4}
 use Rattle.sl_model.specs.declared.instruction.Instr.{Instr}
 use Rattle.sl_model.specs.Register.{bank_number}
 use Rattle.sl_model.specs.Source.{operands, outputs}
-use Rattle.sl_model.specs.State.{State, reg_key, is_zero, read, write, write_all, byte, put, store}
+use Rattle.sl_model.specs.State.{State, reg_key, is_zero, read, write, write_all, byte, put, load, store}
 use Rattle.sl_model.specs.Machine.{limit_of}
 use Rattle.sl_model.specs.Isa.{Isa, op_of}
-use Rattle.sl_model.specs.Exec.{is_store, address_of, loaded_by, values_of, memory_after, operand_values, exec, run}
-use Rattle.sl_model.specs.Lawful.{IsValid, IsLawful, fit}
+use Rattle.sl_model.specs.Exec.{is_load, is_store, address_of, loaded_by, values_of, memory_after, operand_values, exec, run}
+use Rattle.sl_model.specs.Lawful.{IsValid, IsLawful, fit, are_bytes}
 use Rattle.sl_isa.specs.Arch.{AreOperands}
 use Rattle.machine_sem.specs.Fits.{Fits}
 use Rattle.machine_sem.proofs.Maps.{keys_differ}
@@ -130,7 +130,7 @@ module _ (isa : Isa) (lawful : IsLawful isa) where
         (λ same. not_within a address isa.space (nat_cmp-IsAntisymmetric a address ((Equal-is (nat_cmp a address)).0 same)) within far) (fits.addresses a far);
   }
 
-  store_fits : (address : ℕ) (bytes : List ℕ) (s : State) → list_all (λ b. nat_lt b 256) bytes ≡ true → Fits isa s → Fits isa (record { regs = s.regs; memory = store isa.space address bytes s.memory })
+  store_fits : (address : ℕ) (bytes : List ℕ) (s : State) → are_bytes bytes ≡ true → Fits isa s → Fits isa (record { regs = s.regs; memory = store isa.space address bytes s.memory })
   unfolding store
   store_fits address [] s h fits = fits
   store_fits address (b ∷ bytes) s h fits =
@@ -148,6 +148,19 @@ module _ (isa : Isa) (lawful : IsLawful isa) where
         | false ↦ λ _. fits
       ] refl
 
+  load_fits : (s : State) → Fits isa s → (address size : ℕ) → are_bytes (load isa.space s.memory address size) ≡ true
+  unfolding load
+  load_fits s fits address zero = refl
+  load_fits s fits address (suc size) = both_hold _ _ (lt-ltb _ _ (fits.bytes (address % isa.space))) (load_fits s fits (address + 1) size)
+
+  loaded_fits : (i : Instr) (ins : List ℕ) (s : State) → Fits isa s → are_bytes (loaded_by isa i ins s.memory) ≡ true
+  unfolding loaded_by
+  loaded_fits i ins s fits =
+      elim (is_load (isa.info i.form)) as (λ b. are_bytes (if b then load isa.space s.memory (address_of isa i ins) (isa.info i.form).size else []) ≡ true) [
+        | true ↦ load_fits s fits (address_of isa i ins) (isa.info i.form).size
+        | false ↦ refl
+      ]
+
   -- after a step
   pub exec_fits : (i : Instr) → IsValid isa i → (s : State) → Fits isa s → Fits isa (exec isa i s)
   unfolding exec values_of
@@ -155,5 +168,5 @@ module _ (isa : Isa) (lawful : IsLawful isa) where
       let ins = operand_values i s in
       let are = operands_fit i s fits in
       write_all_fits (outputs i) _ _
-          (lawful.values_fit i ins (loaded_by isa i ins s.memory) valid are.count (length-loaded_by isa lawful i valid ins s.memory) are.fitting)
+          (lawful.values_fit i ins (loaded_by isa i ins s.memory) valid are.count (length-loaded_by isa lawful i valid ins s.memory) are.fitting (loaded_fits i ins s fits))
           (memory_fits i valid s fits)

@@ -1,5 +1,6 @@
 pub mod Maps
 pub mod Undo
+pub mod FewLaws
 pub mod Fitting
 pub mod Stepping
 pub mod Wrapped

@@ -1,3 +1,4 @@
 pub mod StateCode
 pub mod Fits
+pub mod FewForms
 pub mod Moves
