@@ -1,8 +1,11 @@
 //! A small instruction set, which shows that what the laws of architectures ask for can be met.
-ghost use Rattle.std.specs.Prelude.{◌≡◌, ◌%◌, ◌^◌, ◌<◌, slice_index};
-ghost use Rattle.machine_sem.specs.FewForms.{few_isa, few_step, form_of, info_of, flags_of, operand_in, number_in, plain_info};
+ghost use Rattle.std.specs.Prelude.{◌≡◌, ◌%◌, ◌^◌, ◌<◌, ◌∷◌, [], slice_index};
+ghost use Rattle.sl_isa.specs.Arch.{padded_values};
+ghost use Rattle.machine_sem.specs.FewForms.{few_isa, few_step, form_of, info_of, less, flags_of, values_by, stored_by_form, operand_in, number_in, plain_info};
 
-use sl_isa::{Access, Arch, ArchName, CounterOp, FormInfo, Instr, Outs, Reg, RegSet};
+ghost use Rattle.machine_sem.specs.FewLaws.{few_lawful, few_steps};
+
+use sl_isa::{Access, Arch, ArchName, Bank, CounterOp, FormInfo, Instr, Outs, Reg, RegSet};
 
 // `add`, `sub` and `eor` of three x registers; `sub`, `subs` and `lsr` with a number; a load of two bytes, and a store
 // of two bytes that moves its base on.
@@ -82,5 +85,172 @@ fn info_of(form: Form) -> FormInfo
             size: 2,
             ..plain_info(x_registers, nothing)
         },
+    }
+}
+
+// The value of an operand, as that of an x register.
+fn operand(ins: &[u128], place: usize) -> u64
+    ensures { result ≡ operand_in ins.now place }
+{
+    if place < ins.len() {
+        (ins[place] % (1 << 64)) as u64
+    } else {
+        0
+    }
+}
+
+// A byte that was loaded.
+fn loaded_byte(loaded: &[u8], place: usize) -> u64
+    ensures value { result ≡ slice_index loaded.now place }
+    ensures byte { result < 256 }
+{
+    if place < loaded.len() {
+        u64::from(loaded[place])
+    } else {
+        0
+    }
+}
+
+// A number less another, in 64 bits.
+fn less(from: u64, number: u64) -> u64
+    ensures { result ≡ less from number }
+{
+    from.wrapping_sub(number)
+}
+
+// The flags N, Z, C, V of a number less one below 64.
+fn flags_of(from: u64, number: u64) -> u64
+    ensures { result ≡ flags_of from number }
+{
+    let rest = less(from, number);
+    let negative = if rest < 1 << 63 { 0 } else { 8 };
+    let zero = if rest == 0 { 4 } else { 0 };
+    let carry = if from < number { 0 } else { 2 };
+    let overflow = if from < 1 << 63 {
+        0
+    } else if rest < 1 << 63 {
+        1
+    } else {
+        0
+    };
+    negative + zero + carry + overflow
+}
+
+// The number of an instruction.
+fn number_in(instr: &Instr) -> u64
+    ensures { result ≡ number_in instr.now.imms }
+{
+    instr.imms[0].unsigned_abs()
+}
+
+// What an instruction gives that stores nothing: one value.
+#[tactic(auto, unfolding(sl_isa::specs::Arch::padded_values))]
+fn one_value(value: u64) -> Outs
+    ensures regs { result.regs ≡ padded_values 3 (value ∷ []) }
+    ensures bytes { result.bytes ≡ padded_values 32 [] }
+{
+    Outs {
+        regs: [u128::from(value), 0, 0],
+        bytes: [0; 32],
+    }
+}
+
+impl Arch for FewForms {
+    ghost isa = { few_isa };
+
+    ghost step_of = { few_step };
+
+    fn name(&self) -> ArchName {
+        ArchName::Arm64
+    }
+
+    fn info(&self, form: u16) -> FormInfo {
+        info_of(form_of(form))
+    }
+
+    fn offset(&self, instr: &Instr) -> i64 {
+        match form_of(instr.form) {
+            Form::LoadHalf => instr.imms[0],
+            _ => 0,
+        }
+    }
+
+    fn access(&self, instr: &Instr, ins: &[u128]) -> Option<Access> {
+        match form_of(instr.form) {
+            Form::LoadHalf => Some(Access {
+                store: false,
+                address: operand(ins, 0).wrapping_add(number_in(instr)),
+                size: 2,
+            }),
+            Form::StoreHalf => Some(Access {
+                store: true,
+                address: operand(ins, 1),
+                size: 2,
+            }),
+            _ => None,
+        }
+    }
+
+    fn exec(&self, instr: &Instr, ins: &[u128], loaded: &[u8]) -> Outs {
+        exec_form(form_of(instr.form), number_in(instr), ins, loaded)
+    }
+
+    fn counter_op(&self, op: CounterOp, counter: Reg, line: u32) -> Instr {
+        let flags = match op {
+            CounterOp::Subs => Some(Reg { bank: Bank::Flags, symbolic: false, number: 0 }),
+            _ => None,
+        };
+        let (form, number) = match op {
+            CounterOp::Sub { number } => (3, number),
+            CounterOp::Subs => (4, 1),
+            CounterOp::Lsr { by } => (5, by),
+        };
+        Instr {
+            form,
+            wide: false,
+            imms: [i64::from(number), 0, 0],
+            ins: [Some(counter), None, None, None],
+            outs: [Some(counter), flags, None],
+            tag: None,
+            early: false,
+            late: false,
+            line,
+        }
+    }
+
+    ghost lawful = { few_lawful };
+
+    ghost steps = { few_steps };
+}
+
+// What an instruction of a form gives.
+#[tactic(auto, unfolding(sl_isa::specs::Arch::padded_values))]
+fn exec_form(form: Form, number: u64, ins: &[u128], loaded: &[u8]) -> Outs
+    requires { number < 64 }
+    ensures values { result.regs ≡ padded_values 3 (values_by form number ins.now loaded.now) }
+    ensures stored { result.bytes ≡ padded_values 32 (stored_by_form form ins.now) }
+{
+    let left = operand(ins, 0);
+    let right = operand(ins, 1);
+    match form {
+        Form::AddRegisters => one_value(left.wrapping_add(right)),
+        Form::SubRegisters => one_value(less(left, right)),
+        Form::EorRegisters => one_value(left ^ right),
+        Form::SubNumber => one_value(less(left, number)),
+        Form::SubsNumber => Outs {
+            regs: [u128::from(less(left, number)), u128::from(flags_of(left, number)), 0],
+            bytes: [0; 32],
+        },
+        Form::LsrNumber => one_value(left >> number),
+        Form::LoadHalf => one_value(loaded_byte(loaded, 0) + 256 * loaded_byte(loaded, 1)),
+        Form::StoreHalf => {
+            let mut bytes = [0; 32];
+            bytes[0] = (left % 256) as u8;
+            bytes[1] = (left / 256 % 256) as u8;
+            Outs {
+                regs: [u128::from(right.wrapping_add(number)), 0, 0],
+                bytes,
+            }
+        }
     }
 }
