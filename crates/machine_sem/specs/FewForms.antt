@@ -4,14 +4,14 @@ use Rattle.std.specs.Prelude.{ℕ, ℤ, Bool, true, false, pos, ◌+◌, ◌-◌
 use Rattle.sl_model.specs.declared.register.Reg.{Reg}
 use Rattle.sl_model.specs.declared.register.RegSet.{RegSet}
 use Rattle.sl_model.specs.declared.instruction.ArchName.TheVariants.{Arm64}
+use Rattle.sl_model.specs.declared.instruction.Access.{Access}
 use Rattle.sl_model.specs.declared.instruction.FormInfo.{FormInfo}
 use Rattle.sl_model.specs.declared.instruction.Instr.{Instr}
 use Rattle.sl_model.specs.Machine.{space_of, limit_of}
 use Rattle.sl_model.specs.Isa.{Isa, Op}
-use Rattle.sl_model.specs.Source.{padded}
 use Rattle.sl_isa.specs.declared.arch.CounterOp.{CounterOp}
 use Rattle.sl_isa.specs.declared.arch.CounterOp.TheVariants.{Sub, Subs, Lsr}
-use Rattle.sl_isa.specs.Arch.{step_outputs}
+use Rattle.sl_isa.specs.Arch.{flags_register}
 use Rattle.machine_sem.specs.declared.few_forms.Form.{Form}
 use Rattle.machine_sem.specs.declared.few_forms.Form.TheVariants.{AddRegisters, SubRegisters, EorRegisters, SubNumber, SubsNumber, LsrNumber, LoadHalf, StoreHalf}
 
@@ -94,6 +94,12 @@ abbrev pub offset_by : Form → ℕ → ℤ
 offset_by LoadHalf n = pos n
 offset_by _ n = pos 0
 
+-- the access of an instruction with a number and these operands
+abbrev pub access_by : Form → ℕ → List ℕ → Option Access
+access_by LoadHalf n ins = Some (record { store = false; address = (operand_in ins 0 + n) % 2 ^ 64; size = 2 })
+access_by StoreHalf n ins = Some (record { store = true; address = operand_in ins 1; size = 2 })
+access_by _ n ins = None
+
 -- the instruction set: eight forms, with numbers below 64
 unfoldable pub few_isa : Isa
 few_isa = record {
@@ -119,14 +125,20 @@ step_number (Sub number) = number
 step_number Subs = 1
 step_number (Lsr by) = by
 
+-- the second output of a counter's step
+abbrev pub step_flags : CounterOp → Option Reg
+step_flags (Sub number) = None
+step_flags Subs = Some flags_register
+step_flags (Lsr by) = None
+
 -- the instruction that makes a counter's step
 unfoldable pub few_step : CounterOp → Reg → ℕ → Instr
 few_step op counter line = record {
   form = step_form op;
   wide = false;
   imms = pos (step_number op) ∷ pos 0 ∷ pos 0 ∷ [];
-  ins = padded 4 (counter ∷ []);
-  outs = padded 3 (step_outputs op counter);
+  ins = Some counter ∷ None ∷ None ∷ None ∷ [];
+  outs = Some counter ∷ step_flags op ∷ None ∷ [];
   tag = None;
   early = false;
   late = false;

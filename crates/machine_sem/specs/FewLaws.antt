@@ -1,16 +1,17 @@
 -- The small instruction set is lawful.
-use Rattle.std.proofs.Common.{◌≡◌, ℕ, ℤ, pos, zero, suc, ◌+◌, ◌-◌, ◌*◌, ◌/◌, ◌%◌, ◌^◌, ◌<◌, ◌≤◌, ◌≤ℤ◌, ◌+ℤ◌, Bool, true, false, not, cond, ◌&&◌, List, [], ◌∷◌, length, slice_index, Option, None, Some, refl, sym, ap, subst, ◌∙◌, arith, lit<, lit≤, rules}
+use Rattle.std.proofs.Common.{◌≡◌, ℕ, ℤ, pos, zero, suc, ◌+◌, ◌-◌, ◌*◌, ◌/◌, ◌%◌, ◌^◌, ◌<◌, ◌≤◌, ◌≤ℤ◌, ◌+ℤ◌, Bool, true, false, not, cond, ◌&&◌, List, [], ◌∷◌, length, slice_index, Option, None, Some, refl, sym, ap, subst, ◌∙◌, arith, lit<, lit≤, rules, add-zero}
 use Rattle.std.proofs.lemmas.Bool.{true≢false, ltb-true, lt-ltb, le-leb}
 use Rattle.std.proofs.lemmas.Nat.{mod_below}
 use Rattle.std.specs.Prelude.{if◌then◌else◌, nat_lt, int_le, bit_xor, ◌==◌}
 use Rattle.std.proofs.lemmas.Nat.{xor_mod}
 use Rattle.std.proofs.lemmas.Nat.Bits.{bit_at_ones}
-use Rattle.std.proofs.Math.Nat.{div-le_self, mod-eq_of_lt}
+use Rattle.std.proofs.Math.Nat.{div-le_self, mod-eq_of_lt, mod-add-mod}
 use Rattle.std.specs.List.{list_all, list_any, zip}
 use Rattle.sl_model.specs.declared.register.Bank.{Bank}
 use Rattle.sl_model.specs.declared.register.Bank.TheVariants.{General, Vector, Flags, Stack}
 use Rattle.sl_model.specs.declared.register.Reg.{Reg}
 use Rattle.sl_model.specs.declared.register.RegSet.{RegSet}
+use Rattle.sl_model.specs.declared.instruction.Access.{Access}
 use Rattle.sl_model.specs.declared.instruction.Instr.{Instr}
 use Rattle.sl_model.specs.declared.instruction.ArchName.TheVariants.{Arm64}
 use Rattle.sl_model.specs.RegSets.{set_has, set_count}
@@ -18,15 +19,15 @@ use Rattle.sl_model.specs.Register.{same_reg}
 use Rattle.sl_model.specs.Body.{all_differ}
 use Rattle.sl_model.specs.Source.{operands, outputs, place_from}
 use Rattle.sl_model.specs.Machine.{limit_of, can_count}
-use Rattle.sl_model.specs.Isa.{Isa, Op, op_of}
-use Rattle.sl_model.specs.Exec.{has_access, is_store}
+use Rattle.sl_model.specs.Isa.{Isa, Op, op_of, address_at}
+use Rattle.sl_model.specs.Exec.{has_access, is_store, base_value}
 use Rattle.sl_model.specs.Lawful.{IsValid, IsLawful, IsBelow, fit, are_bytes, load_size, suits_set, zero_register}
 use Rattle.sl_isa.specs.declared.arch.CounterOp.{CounterOp}
 use Rattle.sl_isa.specs.declared.arch.CounterOp.TheVariants.{Sub, Subs, Lsr}
-use Rattle.sl_isa.specs.Arch.{IsStep, Steps, flags_register}
+use Rattle.sl_isa.specs.Arch.{IsStep, Steps, flags_register, access_of, stored_by}
 use Rattle.machine_sem.specs.declared.few_forms.Form.{Form}
 use Rattle.machine_sem.specs.declared.few_forms.Form.TheVariants.{AddRegisters, SubRegisters, EorRegisters, SubNumber, SubsNumber, LsrNumber, LoadHalf, StoreHalf}
-use Rattle.machine_sem.specs.FewForms.{few_isa, few_step, form_of, info_of, offset_by, values_by, stored_by_form, number_in, operand_in, less, flags_of, x_registers, the_flags}
+use Rattle.machine_sem.specs.FewForms.{few_isa, few_step, form_of, info_of, offset_by, values_by, stored_by_form, number_in, operand_in, less, access_by, flags_of, x_registers, the_flags}
 
 both : (a b : Bool) → (a && b) ≡ true → (a ≡ true) × (b ≡ true)
 both true b h = (refl, h)
@@ -155,7 +156,7 @@ values_fit_of n ins loaded bytes regs = each (λ form. list_all suits_set (zip r
     (λ suits. one_fits regs _ _ suits (half_small _ _ (byte_at_small loaded 0 bytes) (byte_at_small loaded 1 bytes)))
     (λ suits. one_fits regs _ _ suits (below_64 _))
 
-small_number : (o : Op) → few_isa.valid o ≡ true → number_in o.imms < 64
+pub small_number : (o : Op) → few_isa.valid o ≡ true → number_in o.imms < 64
 unfolding few_isa
 small_number o valid = ltb-true _ _ (both _ _ (both _ _ valid).1).1
 
@@ -259,3 +260,26 @@ steps_of (Lsr by) General false number line counts step = record {
 pub few_steps : (op : CounterOp) (counter : Reg) (line : ℕ) → can_count few_isa.name counter ≡ true → IsStep op → Steps few_isa op counter line (few_step op counter line)
 unfolding few_isa
 few_steps op counter line counts step = steps_of op counter.bank counter.symbolic counter.number line counts step
+
+base_wrapped : (a : ℕ) → a % 2 ^ 64 ≡ (a + 0) % 2 ^ 64
+base_wrapped a = ap (λ m. m % 2 ^ 64) (sym (add-zero a))
+
+access_of_form : (n : ℕ) (ins : List ℕ) (form : Form) → access_by form n ins ≡ (if has_access (info_of form) then Some (record { store = (info_of form).store; address = address_at (2 ^ 64) (base_value (info_of form).base ins) (offset_by form n); size = (info_of form).size }) else None)
+unfolding address_at
+access_of_form n ins = each (λ form. access_by form n ins ≡ (if has_access (info_of form) then Some (record { store = (info_of form).store; address = address_at (2 ^ 64) (base_value (info_of form).base ins) (offset_by form n); size = (info_of form).size }) else None))
+    refl refl refl refl refl refl
+    (ap (λ address. Some (record { store = false; address = address; size = 2 })) (mod-add-mod (slice_index ins 0) (2 ^ 64) n))
+    (ap (λ address. Some (record { store = true; address = address; size = 2 })) (base_wrapped (slice_index ins 1)))
+
+-- the access of an instruction
+pub access_is : (i : Instr) (ins : List ℕ) → access_by (form_of i.form) (number_in i.imms) ins ≡ access_of few_isa i ins
+unfolding few_isa access_of
+access_is i ins = access_of_form (number_in i.imms) ins (form_of i.form)
+
+stored_of_form : (ins : List ℕ) (form : Form) → stored_by_form form ins ≡ (if is_store (info_of form) then stored_by_form form ins else [])
+stored_of_form ins = each (λ form. stored_by_form form ins ≡ (if is_store (info_of form) then stored_by_form form ins else [])) refl refl refl refl refl refl refl refl
+
+-- the bytes that it stores
+pub stored_is : (i : Instr) (ins : List ℕ) → stored_by_form (form_of i.form) ins ≡ stored_by few_isa i ins
+unfolding few_isa stored_by
+stored_is i ins = stored_of_form ins (form_of i.form)

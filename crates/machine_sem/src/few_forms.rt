@@ -1,7 +1,7 @@
 //! A small instruction set, which shows that what the laws of architectures ask for can be met.
-ghost use Rattle.std.specs.Prelude.{◌≡◌, ◌%◌, ◌^◌, ◌<◌, ◌∷◌, [], slice_index};
+ghost use Rattle.std.specs.Prelude.{◌≡◌, ◌%◌, ◌^◌, ◌<◌, ◌∷◌, [], pos, slice_index};
 ghost use Rattle.sl_isa.specs.Arch.{padded_values};
-ghost use Rattle.machine_sem.specs.FewForms.{few_isa, few_step, form_of, info_of, less, flags_of, values_by, stored_by_form, operand_in, number_in, plain_info};
+ghost use Rattle.machine_sem.specs.FewForms.{few_isa, few_step, form_of, info_of, less, flags_of, values_by, stored_by_form, step_form, step_number, step_flags, offset_by, access_by, operand_in, number_in, plain_info};
 
 ghost use Rattle.machine_sem.specs.FewLaws.{few_lawful, few_steps};
 
@@ -155,6 +155,7 @@ fn one_value(value: u64) -> Outs
     }
 }
 
+#[tactic(auto, unfolding(crate::specs::FewForms::few_isa, crate::specs::FewForms::few_step), using(crate::specs::FewLaws::small_number, crate::specs::FewLaws::access_is, crate::specs::FewLaws::stored_is))]
 impl Arch for FewForms {
     ghost isa = { few_isa };
 
@@ -169,26 +170,11 @@ impl Arch for FewForms {
     }
 
     fn offset(&self, instr: &Instr) -> i64 {
-        match form_of(instr.form) {
-            Form::LoadHalf => instr.imms[0],
-            _ => 0,
-        }
+        offset_of(form_of(instr.form), number_in(instr))
     }
 
     fn access(&self, instr: &Instr, ins: &[u128]) -> Option<Access> {
-        match form_of(instr.form) {
-            Form::LoadHalf => Some(Access {
-                store: false,
-                address: operand(ins, 0).wrapping_add(number_in(instr)),
-                size: 2,
-            }),
-            Form::StoreHalf => Some(Access {
-                store: true,
-                address: operand(ins, 1),
-                size: 2,
-            }),
-            _ => None,
-        }
+        access_by(form_of(instr.form), number_in(instr), ins)
     }
 
     fn exec(&self, instr: &Instr, ins: &[u128], loaded: &[u8]) -> Outs {
@@ -196,21 +182,12 @@ impl Arch for FewForms {
     }
 
     fn counter_op(&self, op: CounterOp, counter: Reg, line: u32) -> Instr {
-        let flags = match op {
-            CounterOp::Subs => Some(Reg { bank: Bank::Flags, symbolic: false, number: 0 }),
-            _ => None,
-        };
-        let (form, number) = match op {
-            CounterOp::Sub { number } => (3, number),
-            CounterOp::Subs => (4, 1),
-            CounterOp::Lsr { by } => (5, by),
-        };
         Instr {
-            form,
+            form: step_form(op),
             wide: false,
-            imms: [i64::from(number), 0, 0],
+            imms: [step_number(op), 0, 0],
             ins: [Some(counter), None, None, None],
-            outs: [Some(counter), flags, None],
+            outs: [Some(counter), step_flags(op), None],
             tag: None,
             early: false,
             late: false,
@@ -221,6 +198,72 @@ impl Arch for FewForms {
     ghost lawful = { few_lawful };
 
     ghost steps = { few_steps };
+}
+
+// The form of a counter's step.
+fn step_form(op: CounterOp) -> u16
+    ensures { result ≡ step_form op }
+{
+    match op {
+        CounterOp::Sub { .. } => 3,
+        CounterOp::Subs => 4,
+        CounterOp::Lsr { .. } => 5,
+    }
+}
+
+// The number of a counter's step.
+fn step_number(op: CounterOp) -> i64
+    ensures { result ≡ pos (step_number op) }
+{
+    match op {
+        CounterOp::Sub { number } => i64::from(number),
+        CounterOp::Subs => 1,
+        CounterOp::Lsr { by } => i64::from(by),
+    }
+}
+
+// The second output of a counter's step.
+fn step_flags(op: CounterOp) -> Option<Reg>
+    ensures { result ≡ step_flags op }
+{
+    if op != CounterOp::Subs {
+        return None;
+    }
+    Some(Reg {
+        bank: Bank::Flags,
+        symbolic: false,
+        number: 0,
+    })
+}
+
+// The offset of an access.
+fn offset_of(form: Form, number: u64) -> i64
+    requires { number < 64 }
+    ensures { result ≡ offset_by form number }
+{
+    match form {
+        Form::LoadHalf => number as i64,
+        _ => 0,
+    }
+}
+
+// The access of an instruction of a form.
+fn access_by(form: Form, number: u64, ins: &[u128]) -> Option<Access>
+    ensures { result ≡ access_by form number ins.now }
+{
+    match form {
+        Form::LoadHalf => Some(Access {
+            store: false,
+            address: operand(ins, 0).wrapping_add(number),
+            size: 2,
+        }),
+        Form::StoreHalf => Some(Access {
+            store: true,
+            address: operand(ins, 1),
+            size: 2,
+        }),
+        _ => None,
+    }
 }
 
 // What an instruction of a form gives.
