@@ -1,2 +1,3 @@
 pub mod ThreeForms
 pub mod Steps
+pub mod Arch

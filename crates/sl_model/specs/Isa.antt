@@ -2,6 +2,7 @@
 use Rattle.std.specs.Prelude.{ℕ, ℤ, Bool, pos, ◌+ℤ◌, List, unsigned_abs}
 use Rattle.std.specs.Int.{int_rem_euclid}
 use Rattle.sl_model.specs.declared.register.Bank.{Bank}
+use Rattle.sl_model.specs.declared.instruction.ArchName.{ArchName}
 use Rattle.sl_model.specs.declared.instruction.FormInfo.{FormInfo}
 use Rattle.sl_model.specs.declared.instruction.Instr.{Instr}
 
@@ -15,6 +16,10 @@ abbrev pub op_of : Instr → Op
 op_of i = record { form = i.form; wide = i.wide; imms = i.imms }
 
 pub record Isa : Type 0 where
+  -- the architecture that it is of
+  pub name : ArchName
+  -- how many forms there are, numbered from 0
+  pub forms : ℕ
   -- how many addresses there are, and how many turns a counter of 0 stands for
   pub space : ℕ
   -- how many values a register of a bank takes

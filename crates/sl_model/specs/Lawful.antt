@@ -9,6 +9,7 @@ use Rattle.sl_model.specs.declared.instruction.Instr.{Instr}
 use Rattle.sl_model.specs.Register.{same_reg}
 use Rattle.sl_model.specs.RegSets.{set_has, set_count}
 use Rattle.sl_model.specs.Source.{operands, outputs, padded}
+use Rattle.sl_model.specs.Machine.{space_of, limit_of}
 use Rattle.sl_model.specs.Isa.{Isa, Op, op_of}
 use Rattle.sl_model.specs.Exec.{has_access, is_load, is_store}
 use Rattle.sl_model.specs.Body.{all_differ}
@@ -72,6 +73,11 @@ IsBelow (Some k) limit = k < limit
 
 -- What is asked of an instruction set.
 pub record IsLawful (isa : Isa) : Type 0 where
+  -- addresses and registers are those of the architecture
+  pub spaces : isa.space ≡ space_of isa.name
+  pub limits : (bank : Bank) → isa.limit bank ≡ limit_of isa.name bank
+  -- each instruction is of a form of the table
+  pub known : (o : Op) → isa.valid o ≡ true → o.form < isa.forms
   -- an access is far smaller than the space of addresses, and so are offsets
   pub space : 2 ^ 32 ≤ isa.space
   pub sizes : (form : ℕ) → (isa.info form).size ≤ 32
@@ -86,3 +92,5 @@ pub record IsLawful (isa : Isa) : Type 0 where
   pub values_fit : (i : Instr) (ins loaded : List ℕ) → IsValid isa i → length ins ≡ length (operands i) → length loaded ≡ load_size isa i.form → fit isa (operands i) ins ≡ true → fit isa (outputs i) (isa.values (op_of i) ins loaded) ≡ true
   -- a store stores as many bytes as its access has
   pub stored_count : (i : Instr) (ins : List ℕ) → IsValid isa i → is_store (isa.info i.form) ≡ true → length ins ≡ length (operands i) → length (isa.stored (op_of i) ins) ≡ (isa.info i.form).size
+  -- and they are bytes
+  pub stored_fit : (i : Instr) (ins : List ℕ) → IsValid isa i → is_store (isa.info i.form) ≡ true → length ins ≡ length (operands i) → list_all (λ b. nat_lt b 256) (isa.stored (op_of i) ins) ≡ true

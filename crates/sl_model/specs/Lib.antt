@@ -4,6 +4,7 @@ pub mod Cycles
 pub mod Text
 <<<<<<< HEAD
 pub mod State
+pub mod Machine
 pub mod Isa
 pub mod Exec
 pub mod Body

@@ -1,0 +1,5 @@
+pub mod Maps
+pub mod Undo
+pub mod Fitting
+pub mod Stepping
+pub mod Wrapped

@@ -1,0 +1,5 @@
+pub mod StateCode
+pub mod Fits
+pub mod FewForms
+pub mod FewLaws
+pub mod Moves

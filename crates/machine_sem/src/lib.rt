@@ -1,0 +1,11 @@
+//! Machine states, and what instructions do to them.
+#![tactic(auto)]
+
+mod few_forms;
+pub mod run;
+pub mod state;
+
+pub use sl_base::NoMemory;
+
+pub use run::{run_list, step};
+pub use state::State;
