@@ -7,7 +7,6 @@ ghost use Rattle.sl_isa.specs.ThreeForms.{Plain, IsPlain, mnemonic, number_of, s
 use crate::{Bank, Instr, Reg};
 use std::fmt;
 
-<<<<<<< HEAD
 // The numbers of the three forms.
 const ADD: u16 = 0;
 
@@ -15,8 +14,6 @@ const SUB: u16 = 1;
 
 const EOR: u16 = 2;
 
-=======
->>>>>>> machine
 /// Reads a whole line, with its line feed, as one of the three instructions; `number` is its line number. There is
 /// none where the line isn't exactly one that is printed: eight spaces, the instruction, a line feed.
 #[tactic(auto, using(crate::proofs::Found::answer_value, crate::proofs::Found::answer_spelled, crate::proofs::Found::answer_other))]
@@ -82,23 +79,10 @@ fn read_second_digit(first: u16, text: &[u8]) -> Option<Numbered>
         rest: text,
     };
     let Some((second, rest)) = text.split_first() else {
-<<<<<<< HEAD
         return Some(one_digit);
     };
     if !second.is_ascii_digit() {
         return Some(one_digit);
-=======
-        return Some(Numbered {
-            number: first,
-            rest: text,
-        });
-    };
-    if !second.is_ascii_digit() {
-        return Some(Numbered {
-            number: first,
-            rest: text,
-        });
->>>>>>> machine
     }
     let number = 10 * first + u16::from(*second - b'0');
     if number < 10 || 30 < number {

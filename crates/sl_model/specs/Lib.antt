@@ -1,17 +1,14 @@
 pub mod Register
+pub mod RegSets
 pub mod Source
 pub mod Cycles
 pub mod Text
-<<<<<<< HEAD
+pub mod Token
 pub mod State
-pub mod Machine
 pub mod Isa
 pub mod Exec
 pub mod Body
-pub mod RegSets
 pub mod Lawful
 pub mod Legal
 pub mod Program
-=======
-pub mod Token
->>>>>>> text
+pub mod Machine
