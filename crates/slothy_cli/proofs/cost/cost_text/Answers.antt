@@ -1,6 +1,6 @@
-use Rattle.std.proofs.Common.{◌≡◌, ℕ, ◌++◌, List, [], string_bytes, length, refl, ap, ap₂, sym, ◌∙◌, subst}
-use Rattle.sl_model.specs.Cycles.{Issued, cycles_of, cycle_count, stalls}
-use Rattle.slothy_cli.specs.CostText.{own_times, cost_head, cost_lines, cost_text}
+use Rattle.std.proofs.Common.{◌≡◌, List, string_bytes, length, ap, sym, ◌∙◌}
+use Rattle.sl_model.specs.Cycles.{Issued, cycle_count}
+use Rattle.slothy_cli.specs.CostText.{own_times, cost_text}
 use Rattle.slothy_cli.proofs.OwnTimes.{length-cycles_of, length-own_times, text-whole}
 use Rattle.slothy_cli.proofs.cost.cost_text.Goals as goal
 

@@ -1,11 +1,11 @@
-use Rattle.std.proofs.Common.{◌≡◌, ℕ, zero, suc, ◌+◌, ◌*◌, ◌<◌, ◌≤◌, List, [], ◌∷◌, ◌++◌, length, get_or, refl, ap, ap₂, sym, ◌∙◌, subst, add-one, arith, rules}
+use Rattle.std.proofs.Common.{◌≡◌, ℕ, ◌+◌, ◌*◌, ◌<◌, ◌≤◌, List, [], ◌∷◌, ◌++◌, length, get_or, ap, ap₂, sym, ◌∙◌, subst, add-one, arith, rules}
 use Rattle.std.proofs.lemmas.List.{length_push}
 use Rattle.sl_model.specs.declared.instruction.Instr.{Instr}
 use Rattle.sl_model.specs.Source.{list_sources}
-use Rattle.sl_model.specs.Cycles.{CostTable, Issued, Push, issued, issued_from, cycles_of, cycle_count, ready_from, next_cycle, row_of}
+use Rattle.sl_model.specs.Cycles.{CostTable, Issued, Push, issued, issued_from, cycles_of, cycle_count, ready_from, next_cycle}
 use Rattle.issue_cost.specs.Timeline.{IsFreeBy}
 use Rattle.issue_cost.proofs.IssueRule.{IsFreeBy-weaken}
-use Rattle.slothy_cli.specs.CostText.{plain_costs, own_times}
+use Rattle.slothy_cli.specs.CostText.{plain_costs}
 use Rattle.slothy_cli.proofs.OwnTimes.{times_after, times_after-none, times_after-next, times_after-whole, length-times_after, length-cycles_of, choices_after, next_issued, own_ready, push_at, own_has_cycles, early_cycles, issued-own, cycle-own, IsFreeBy-next, plain_busy}
 use Rattle.slothy_cli.proofs.cost.own_times.Goals as goal
 

@@ -1,4 +1,4 @@
-use Rattle.std.proofs.Common.{[], ◌≡◌, replicate, sym, subst, ◌∙◌, ◌≤◌, rules}
+use Rattle.std.proofs.Common.{[], ◌≡◌, replicate, sym, subst, rules}
 use Rattle.issue_cost.specs.Sound.{IsSound}
 use Rattle.slothy_cli.specs.CostText.{plain_row}
 use Rattle.slothy_cli.proofs.OwnTimes.{plain_costs-sound}

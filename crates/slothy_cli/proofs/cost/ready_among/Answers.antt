@@ -1,4 +1,4 @@
-use Rattle.std.proofs.Common.{◌≡◌, ◌+◌, ◌*◌, ◌<◌, length, map, max, reverse, ap, sym, ◌∙◌, subst, arith}
+use Rattle.std.proofs.Common.{◌≡◌, ◌+◌, ◌*◌, ◌<◌, length, map, max, reverse, ap, ◌∙◌, arith}
 use Rattle.std.specs.List.{filter_map}
 use Rattle.sl_model.specs.Source.{source_of}
 use Rattle.sl_model.specs.Cycles.{ready_at, ready_from}

@@ -1,4 +1,4 @@
-use Rattle.std.proofs.Common.{◌≡◌, ◌≤◌, length, drop}
+use Rattle.std.proofs.Common.{◌≡◌, ◌≤◌, drop}
 use Rattle.std.specs.List.{filter_map}
 use Rattle.sl_model.specs.Source.{place_from}
 use Rattle.slothy_cli.proofs.sources.place_among.Given as goal
