@@ -1,12 +1,11 @@
 -- Lemmas on the tokens of a line.
-use Rattle.std.proofs.Common.{◌≡◌, ℕ, zero, suc, ◌+◌, ◌-◌, ◌<◌, ◌≤◌, ◌⊎◌, Bool, true, false, cond, not, ◌&&◌, ◌||◌, List, [], ◌∷◌, ◌++◌, length, take, drop, get_or, nat_eq, eqb, refl, sym, ap, ◌∙◌, inl, inr, subst, arith, codes, IsUtf8, IsCharBoundary, encode_utf8, encode_utf8_all, length-append, take-append-drop, append_assoc, drop_of_length-le, drop-drop, eq-eqb, eqb-true, add-zero, slice_index, drop-cons, All, length-take, Option, Some, None}
+use Rattle.std.proofs.Common.{◌≡◌, ℕ, zero, suc, ◌+◌, ◌-◌, ◌<◌, ◌≤◌, Bool, true, false, cond, not, ◌||◌, List, [], ◌∷◌, ◌++◌, length, take, drop, get_or, nat_eq, refl, sym, ap, ◌∙◌, inl, inr, subst, arith, codes, IsUtf8, IsCharBoundary, encode_utf8, encode_utf8_all, take-append-drop, append_assoc, drop_of_length-le, add-zero, slice_index, drop-cons, All, length-take, Option, Some, None}
 use Rattle.std.proofs.lemmas.Bool.Decides.{nat_tests}
 use Rattle.std.proofs.lemmas.Iterator.{YieldsList}
 use Rattle.std.proofs.lemmas.Iterator.Consumers.{YieldsList-from_shown}
 use Rattle.std.proofs.lemmas.Str.{IsCharBoundary-start, IsCharBoundary-end, IsCharBoundary-after_ascii, IsCharBoundary-from_rest, IsCharBoundary-past_char, IsUtf8-drop, chars_past_char, byte_from_char, len_utf8_bounds}
 use Rattle.std.specs.Char.{is_ascii_alphanumeric, is_ascii_digit, len_utf8}
 use Rattle.std.specs.List.{starts_with, prefix_len}
-use Rattle.std.specs.Str.{chars}
 use Rattle.sl_model.specs.declared.text.Comments.{Comments}
 use Rattle.sl_model.specs.declared.text.TokenKind.{TokenKind}
 use Rattle.sl_model.specs.declared.text.TokenKind.TheVariants.{Word, Number, Mark, Comment}
@@ -15,7 +14,7 @@ use Rattle.sl_model.specs.Token.{Lexeme, begins_word, is_word_byte, comment_leng
 use Rattle.sl_text.specs.Tokens.{shape, blanks_before, IsFirst, GivesToken, token_value, tokens_left, is_inside}
 use Rattle.sl_text.specs.declared.token.Token.{Token}
 use Rattle.sl_text.specs.declared.token.Tokens.{Tokens}
-use Rattle.sl_text.proofs.LineLemmas.{Ends, EndsAt, ends_later, ends_boundary}
+use Rattle.sl_text.proofs.LineLemmas.{Ends, ends_later, ends_boundary}
 use Rattle.sl_text.proofs.WordLemmas.{starts_front, front_starts, both}
 
 -- ---- runs of bytes that pass a test

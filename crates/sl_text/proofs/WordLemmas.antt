@@ -1,8 +1,8 @@
 -- Lemmas on words in a text.
-use Rattle.std.proofs.Common.{◌≡◌, ℕ, ◌+◌, Bool, true, false, cond, ◌&&◌, ◌||◌, ◌↔◌, List, [], ◌∷◌, ◌++◌, length, drop, nat_eq, eqb, refl, sym, ap, ◌∙◌, subst, eq-eqb, eqb-true, codes, drop-drop}
+use Rattle.std.proofs.Common.{◌≡◌, ℕ, ◌+◌, Bool, true, false, ◌&&◌, ◌||◌, ◌↔◌, List, [], ◌∷◌, ◌++◌, length, drop, nat_eq, eqb, refl, sym, ap, ◌∙◌, subst, eq-eqb, eqb-true, codes, drop-drop}
 use Rattle.std.specs.List.{starts_with}
 use Rattle.std.specs.Str.Iter.{HasSubslice}
-use Rattle.sl_model.specs.Text.{holds, is_blank, is_quiet, skip_blanks, is_marker}
+use Rattle.sl_model.specs.Text.{holds, is_quiet, skip_blanks, is_marker}
 
 -- ---- a word at a text's start
 

@@ -1,5 +1,5 @@
 -- The tokens of a line, as an iterator has them left.
-use Rattle.std.specs.Prelude.{◌≡◌, ℕ, ◌<◌, ◌≤◌, Bool, true, false, List, length, Option, MatchOption}
+use Rattle.std.specs.Prelude.{◌≡◌, ℕ, ◌<◌, Bool, true, false, List, length, Option, MatchOption}
 use Rattle.std.specs.Iterator.{YieldsFirstBy}
 use Rattle.sl_model.specs.declared.text.Comments.{Comments}
 use Rattle.sl_model.specs.declared.text.TokenKind.{TokenKind}

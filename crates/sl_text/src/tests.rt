@@ -214,6 +214,7 @@ fn a_line_has_tokens(rt: HostRuntime) {
         ),
     ];
     for (text, comments, inside, behind, wanted) in cases {
+        assert!(rt; text.len() < 20);
         let mut left = tokens(Line { number: 1, text }, comments, inside);
         assert_eq!(rt; left.still_inside(), inside, "before {text:?}");
         for want in wanted {

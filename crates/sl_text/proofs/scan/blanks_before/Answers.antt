@@ -1,4 +1,4 @@
-use Rattle.std.proofs.Common.{◌≡◌, sym, subst, ◌∙◌, IsCharBoundary, rules}
+use Rattle.std.proofs.Common.{◌≡◌, sym, subst, IsCharBoundary, rules}
 use Rattle.sl_text.specs.Tokens.{blanks_before}
 use Rattle.sl_text.proofs.TokenLemmas.{blanks_boundary}
 use Rattle.sl_text.proofs.scan.blanks_before.Goals as goal

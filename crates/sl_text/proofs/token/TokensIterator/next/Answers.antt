@@ -1,6 +1,6 @@
-use Rattle.std.proofs.Common.{◌≡◌, ◌+◌, List, ◌∷◌, drop, take, length, refl, sym, ap, ◌∙◌, rules, IsUtf8}
-use Rattle.sl_model.specs.Token.{Lexeme, tokens_at}
-use Rattle.sl_text.specs.Tokens.{GivesToken, token_value, tokens_left, blanks_before, IsFirst}
+use Rattle.std.proofs.Common.{◌≡◌, ◌+◌, ◌∷◌, drop, take, length, refl, sym, ap, ◌∙◌, rules, IsUtf8}
+use Rattle.sl_model.specs.Token.{tokens_at}
+use Rattle.sl_text.specs.Tokens.{tokens_left, blanks_before, IsFirst}
 use Rattle.sl_text.proofs.TokenLemmas.{tokens_none, tokens_next}
 use Rattle.sl_text.proofs.token.TokensIterator.next.Goals as goal
 
