@@ -5,8 +5,12 @@ pub mod command;
 mod cost;
 mod region;
 mod report;
-pub mod run;
+mod top;
 mod sources;
 pub mod status;
 pub mod stop;
 mod work;
+
+pub use top::run;
+pub use status::{Ending, Status};
+pub use stop::{Failure, Quantity, Reason, Stop};

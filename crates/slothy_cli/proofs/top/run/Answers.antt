@@ -1,5 +1,5 @@
 use Rattle.slothy_cli.proofs.Calls.{usage_exactly, exact_status}
-use Rattle.slothy_cli.proofs.run.run.Goals as goal
+use Rattle.slothy_cli.proofs.top.run.Goals as goal
 
 pub returns-clause-call : goal.returns-clause-call
 returns-clause-call g c = (c.call.result, c.status.ensures, c.call.ensures.call)
