@@ -66,15 +66,15 @@ text_items_of_lines : (text : List ℕ) → IsOfLines (text_items text)
 unfolding text_items
 text_items_of_lines text =
     bind_of_lines (parts_from text) (λ parts. built_parts parts >>= λ built. region_items built) (parts_of_lines _)
-        (λ parts. bind_of_lines (built_parts parts) (λ built. region_items built) (unless_of_lines (first_unbuilt 1 (whole_lines parts.before)) parts)
-            (λ built. items_of_lines built.first 64 (whole_lines built.body)))
+    (λ parts. bind_of_lines (built_parts parts) (λ built. region_items built) (unless_of_lines (first_unbuilt 1 (whole_lines parts.before)) parts)
+    (λ built. items_of_lines built.first 64 (whole_lines built.body)))
 
 file_items_of_lines : (bytes : List ℕ) → length bytes ≤ 1048576 → IsOfLines (file_items bytes)
 unfolding file_items
 file_items_of_lines bytes h =
     bind_of_lines (sized bytes) (λ whole. text_from whole >>= λ text. text_items text)
-        (let P : Result (List ℕ) Stop → Type 0 = λ r. IsOfLines r in subst P (sym (sized_within bytes h)) tt)
-        (λ whole. bind_of_lines (text_from whole) (λ text. text_items text) (text_of_lines whole (bad_line whole)) (λ text. text_items_of_lines text))
+    (let P : Result (List ℕ) Stop → Type 0 = λ r. IsOfLines r in subst P (sym (sized_within bytes h)) tt)
+    (λ whole. bind_of_lines (text_from whole) (λ text. text_items text) (text_of_lines whole (bad_line whole)) (λ text. text_items_of_lines text))
 
 outcome_of_lines : (latency : ℕ) (bytes : List ℕ) → length bytes ≤ 1048576 → IsOfLines (cost_outcome latency bytes)
 unfolding cost_outcome

@@ -37,7 +37,7 @@ front_of_all view xs i d piece sent h e s =
     let before = joined (map view (take i xs)) in
     let behind = joined (map view (drop (i + 1) xs)) in
     let whole : joined (map view xs) ≡ before ++ (piece ++ behind) =
-        joined-parts view xs (i + 1) ∙ ap (λ t. t ++ behind) (joined-more view xs i d piece h e) ∙ append_assoc before piece behind in
+    joined-parts view xs (i + 1) ∙ ap (λ t. t ++ behind) (joined-more view xs i d piece h e) ∙ append_assoc before piece behind in
     sym (ap (take (length before + sent)) whole ∙ take-append-add before (piece ++ behind) sent ∙ ap (λ t. before ++ t) (take-append-le sent piece behind s))
 
 -- a count that has risen from a later value has risen

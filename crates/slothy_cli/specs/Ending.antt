@@ -67,7 +67,7 @@ abbrev pub HasCause : CostCommand → Option (List ℕ) → FilesRun → Ending 
 -- the file's bytes have none; of a file that is too long, more than the limit was read
 HasCause c known files (Stopped stop) =
     MatchBool (is_file_limit stop) ((files.chosen ≡ c.name) × (1048576 < files.given) × IfSome known (λ bytes. cost_outcome c.latency bytes ≡ Err stop))
-        (HasStop known c.latency stop)
+    (HasStop known c.latency stop)
 -- a call on the files failed, and it was one on this file
 HasCause c known files ReadFault = HasRisen files.faults_before files.faults_after × (files.chosen ≡ c.name) × (files.broken ≡ true)
 -- want of memory has no cause

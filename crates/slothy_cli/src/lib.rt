@@ -5,12 +5,14 @@ pub mod command;
 mod cost;
 mod region;
 mod report;
-mod top;
 mod sources;
 pub mod status;
 pub mod stop;
+#[cfg(test)]
+mod tests;
+mod top;
 mod work;
 
-pub use top::run;
 pub use status::{Ending, Status};
 pub use stop::{Failure, Quantity, Reason, Stop};
+pub use top::run;

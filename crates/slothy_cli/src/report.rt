@@ -13,14 +13,12 @@ use sl_base::{Sink, write_all};
 // Writes texts one behind the other, until the sink fails. It takes no memory.
 fn tell<S: Sink>(sink: &mut S, pieces: &[&str])
     ensures never_falls { S.faults sink.old ≤ S.faults sink.new }
-    ensures took {
-        TookFront (record {
-            before = S.taken sink.old;
-            after = S.taken sink.new;
-            faults_before = S.faults sink.old;
-            faults_after = S.faults sink.new;
-        }) (joined (map (λ piece. piece.now) pieces.now))
-    }
+    ensures took { TookFront (record {
+      before = S.taken sink.old;
+      after = S.taken sink.new;
+      faults_before = S.faults sink.old;
+      faults_after = S.faults sink.new;
+    }) (joined (map (λ piece. piece.now) pieces.now)) }
 {
     for piece in pieces {
         if let Err(_) = write_all(sink, piece.as_bytes()) {
@@ -55,44 +53,60 @@ fn quantity_text(quantity: Quantity) -> &'static str
 // Says that a line of a file is refused.
 fn report_refusal<'a, S: Sink>(sink: &mut S, name: &'a str, line: &'a str, reason: &'a str)
     ensures never_falls { S.faults sink.old ≤ S.faults sink.new }
-    ensures took {
-        TookFront (record {
-            before = S.taken sink.old;
-            after = S.taken sink.new;
-            faults_before = S.faults sink.old;
-            faults_after = S.faults sink.new;
-        }) (joined (codes "slothy: " ∷ name.now ∷ codes ":" ∷ line.now ∷ codes ": refused: " ∷ reason.now ∷ codes "\n" ∷ []))
-    }
+    ensures took { TookFront (record {
+      before = S.taken sink.old;
+      after = S.taken sink.new;
+      faults_before = S.faults sink.old;
+      faults_after = S.faults sink.new;
+    }) (joined (codes "slothy: " ∷ name.now ∷ codes ":" ∷ line.now ∷ codes ": refused: " ∷ reason.now ∷ codes "\n" ∷ [])) }
 {
-    tell(sink, &["slothy: ", name, ":", line, ": refused: ", reason, "\n"]);
+    tell(
+        sink,
+        &["slothy: ", name, ":", line, ": refused: ", reason, "\n"],
+    );
 }
 
 // Says that a quantity passes its limit at a line of a file.
-fn report_limit<'a, S: Sink>(sink: &mut S, name: &'a str, line: &'a str, quantity: &'a str, limit: &'a str)
+fn report_limit<'a, S: Sink>(
+    sink: &mut S,
+    name: &'a str,
+    line: &'a str,
+    quantity: &'a str,
+    limit: &'a str,
+)
     ensures never_falls { S.faults sink.old ≤ S.faults sink.new }
-    ensures took {
-        TookFront (record {
-            before = S.taken sink.old;
-            after = S.taken sink.new;
-            faults_before = S.faults sink.old;
-            faults_after = S.faults sink.new;
-        }) (joined (codes "slothy: " ∷ name.now ∷ codes ":" ∷ line.now ∷ codes ": too large: " ∷ quantity.now ∷ codes " limit=" ∷ limit.now ∷ codes "\n" ∷ []))
-    }
+    ensures took { TookFront (record {
+      before = S.taken sink.old;
+      after = S.taken sink.new;
+      faults_before = S.faults sink.old;
+      faults_after = S.faults sink.new;
+    }) (joined (codes "slothy: " ∷ name.now ∷ codes ":" ∷ line.now ∷ codes ": too large: " ∷ quantity.now ∷ codes " limit=" ∷ limit.now ∷ codes "\n" ∷ [])) }
 {
-    tell(sink, &["slothy: ", name, ":", line, ": too large: ", quantity, " limit=", limit, "\n"]);
+    tell(
+        sink,
+        &[
+            "slothy: ",
+            name,
+            ":",
+            line,
+            ": too large: ",
+            quantity,
+            " limit=",
+            limit,
+            "\n",
+        ],
+    );
 }
 
 // Says why a file has no text.
 fn report_stop<S: Sink>(sink: &mut S, name: &str, stop: Stop)
     ensures never_falls { S.faults sink.old ≤ S.faults sink.new }
-    ensures took {
-        TookFront (record {
-            before = S.taken sink.old;
-            after = S.taken sink.new;
-            faults_before = S.faults sink.old;
-            faults_after = S.faults sink.new;
-        }) (stop_message name.now stop)
-    }
+    ensures took { TookFront (record {
+      before = S.taken sink.old;
+      after = S.taken sink.new;
+      faults_before = S.faults sink.old;
+      faults_after = S.faults sink.new;
+    }) (stop_message name.now stop) }
 {
     let mut line_digits = Buffer::new();
     let mut limit_digits = Buffer::new();
@@ -115,14 +129,12 @@ fn report_stop<S: Sink>(sink: &mut S, name: &str, stop: Stop)
 // Says which file couldn't be read.
 fn report_read_fault<S: Sink>(sink: &mut S, name: &str)
     ensures never_falls { S.faults sink.old ≤ S.faults sink.new }
-    ensures took {
-        TookFront (record {
-            before = S.taken sink.old;
-            after = S.taken sink.new;
-            faults_before = S.faults sink.old;
-            faults_after = S.faults sink.new;
-        }) (joined (codes "slothy: read fault: " ∷ name.now ∷ codes "\n" ∷ []))
-    }
+    ensures took { TookFront (record {
+      before = S.taken sink.old;
+      after = S.taken sink.new;
+      faults_before = S.faults sink.old;
+      faults_after = S.faults sink.new;
+    }) (joined (codes "slothy: read fault: " ∷ name.now ∷ codes "\n" ∷ [])) }
 {
     tell(sink, &["slothy: read fault: ", name, "\n"]);
 }
@@ -130,14 +142,12 @@ fn report_read_fault<S: Sink>(sink: &mut S, name: &str)
 // Says how many bytes were written, in decimal digits.
 fn report_sent<S: Sink>(sink: &mut S, digits: &str)
     ensures never_falls { S.faults sink.old ≤ S.faults sink.new }
-    ensures took {
-        TookFront (record {
-            before = S.taken sink.old;
-            after = S.taken sink.new;
-            faults_before = S.faults sink.old;
-            faults_after = S.faults sink.new;
-        }) (joined (codes "slothy: write fault after " ∷ digits.now ∷ codes " bytes\n" ∷ []))
-    }
+    ensures took { TookFront (record {
+      before = S.taken sink.old;
+      after = S.taken sink.new;
+      faults_before = S.faults sink.old;
+      faults_after = S.faults sink.new;
+    }) (joined (codes "slothy: write fault after " ∷ digits.now ∷ codes " bytes\n" ∷ [])) }
 {
     tell(sink, &["slothy: write fault after ", digits, " bytes\n"]);
 }
@@ -145,14 +155,12 @@ fn report_sent<S: Sink>(sink: &mut S, digits: &str)
 // Says how many bytes were written.
 fn report_write_fault<S: Sink>(sink: &mut S, sent: u64)
     ensures never_falls { S.faults sink.old ≤ S.faults sink.new }
-    ensures took {
-        TookFront (record {
-            before = S.taken sink.old;
-            after = S.taken sink.new;
-            faults_before = S.faults sink.old;
-            faults_after = S.faults sink.new;
-        }) (joined (codes "slothy: write fault after " ∷ decimal sent ∷ codes " bytes\n" ∷ []))
-    }
+    ensures took { TookFront (record {
+      before = S.taken sink.old;
+      after = S.taken sink.new;
+      faults_before = S.faults sink.old;
+      faults_after = S.faults sink.new;
+    }) (joined (codes "slothy: write fault after " ∷ decimal sent ∷ codes " bytes\n" ∷ [])) }
 {
     let mut digits = Buffer::new();
     report_sent(sink, digits.format(sent));
@@ -162,14 +170,12 @@ fn report_write_fault<S: Sink>(sink: &mut S, sent: u64)
 #[tactic(auto, unfolding(crate::specs::Messages::message_of))]
 pub fn report<S: Sink>(sink: &mut S, name: &str, ending: Ending)
     ensures never_falls { S.faults sink.old ≤ S.faults sink.new }
-    ensures took {
-        TookFront (record {
-            before = S.taken sink.old;
-            after = S.taken sink.new;
-            faults_before = S.faults sink.old;
-            faults_after = S.faults sink.new;
-        }) (message_of name.now ending)
-    }
+    ensures took { TookFront (record {
+      before = S.taken sink.old;
+      after = S.taken sink.new;
+      faults_before = S.faults sink.old;
+      faults_after = S.faults sink.new;
+    }) (message_of name.now ending) }
 {
     match ending {
         Ending::Done => tell(sink, &[]),

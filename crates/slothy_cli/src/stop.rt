@@ -31,8 +31,15 @@ pub enum Quantity {
 /// Why an input has no answer. Lines are counted from 1, and 0 stands for the whole file.
 #[derive(Clone, Copy, Debug, PartialEq, Eq)]
 pub enum Stop {
-    Refused { line: u32, reason: Reason },
-    TooLarge { line: u32, quantity: Quantity, limit: u32 },
+    Refused {
+        line: u32,
+        reason: Reason,
+    },
+    TooLarge {
+        line: u32,
+        quantity: Quantity,
+        limit: u32,
+    },
 }
 
 /// Why a step gives no answer.

@@ -18,14 +18,12 @@ use std::thread::Threads;
 // Writes a whole text.
 fn deliver<O: Sink>(out: &mut O, text: &str) -> Ending
     ensures never_falls { O.faults out.old ≤ O.faults out.new }
-    ensures delivers {
-        Delivers (record {
-            before = O.taken out.old;
-            after = O.taken out.new;
-            faults_before = O.faults out.old;
-            faults_after = O.faults out.new;
-        }) text.now result
-    }
+    ensures delivers { Delivers (record {
+      before = O.taken out.old;
+      after = O.taken out.new;
+      faults_before = O.faults out.old;
+      faults_after = O.faults out.new;
+    }) text.now result }
 {
     match write_all(out, text.as_bytes()) {
         Ok(()) => Ending::Done,
@@ -44,20 +42,18 @@ fn carry_out<F: Files, O: Sink>(
     ensures same_files { F.holds files.new ≡ F.holds files.old }
     ensures files_never_fall { F.faults files.old ≤ F.faults files.new }
     ensures out_never_falls { O.faults out.old ≤ O.faults out.new }
-    ensures ends {
-        Ends (shown command.now) (F.holds files.old command.now.name.now) (record {
-            faults_before = F.faults files.old;
-            faults_after = F.faults files.new;
-            given = F.given files.new;
-            chosen = F.chosen files.new;
-            broken = F.broken files.new;
-        }) (record {
-            before = O.taken out.old;
-            after = O.taken out.new;
-            faults_before = O.faults out.old;
-            faults_after = O.faults out.new;
-        }) result
-    }
+    ensures ends { Ends (shown command.now) (F.holds files.old command.now.name.now) (record {
+      faults_before = F.faults files.old;
+      faults_after = F.faults files.new;
+      given = F.given files.new;
+      chosen = F.chosen files.new;
+      broken = F.broken files.new;
+    }) (record {
+      before = O.taken out.old;
+      after = O.taken out.new;
+      faults_before = O.faults out.old;
+      faults_after = O.faults out.new;
+    }) result }
 {
     match text_of_file(alloc, command, files) {
         Ok(text) => deliver(out, text.as_str()),
@@ -77,25 +73,23 @@ fn call<F: Files, O: Sink, E: Sink>(
     ensures files_never_fall { F.faults files.old ≤ F.faults files.new }
     ensures out_never_falls { O.faults out.old ≤ O.faults out.new }
     ensures err_never_falls { E.faults err.old ≤ E.faults err.new }
-    ensures call {
-        Call (map string_bytes words.now) (F.holds files.old) (record {
-            faults_before = F.faults files.old;
-            faults_after = F.faults files.new;
-            given = F.given files.new;
-            chosen = F.chosen files.new;
-            broken = F.broken files.new;
-        }) (record {
-            before = O.taken out.old;
-            after = O.taken out.new;
-            faults_before = O.faults out.old;
-            faults_after = O.faults out.new;
-        }) (record {
-            before = E.taken err.old;
-            after = E.taken err.new;
-            faults_before = E.faults err.old;
-            faults_after = E.faults err.new;
-        }) result
-    }
+    ensures call { Call (map string_bytes words.now) (F.holds files.old) (record {
+      faults_before = F.faults files.old;
+      faults_after = F.faults files.new;
+      given = F.given files.new;
+      chosen = F.chosen files.new;
+      broken = F.broken files.new;
+    }) (record {
+      before = O.taken out.old;
+      after = O.taken out.new;
+      faults_before = O.faults out.old;
+      faults_after = O.faults out.new;
+    }) (record {
+      before = E.taken err.old;
+      after = E.taken err.new;
+      faults_before = E.faults err.old;
+      faults_after = E.faults err.new;
+    }) result }
 {
     let Some(command) = command_of(words) else {
         report(err, "", Ending::Usage);
@@ -120,34 +114,30 @@ pub fn run<R: Threads + Sync, F: Files, O: Sink, E: Sink, G: Gate + Sync>(
     _gate: &G,
 ) -> Status
     // The call ended in one way, with its cause, and says what the sinks took.
-    ensures call {
-        (ending : TheEnding) × (result ≡ status_of ending) × Call (map string_bytes words.now) (F.holds files.old) (record {
-            faults_before = F.faults files.old;
-            faults_after = F.faults files.new;
-            given = F.given files.new;
-            chosen = F.chosen files.new;
-            broken = F.broken files.new;
-        }) (record {
-            before = O.taken out.old;
-            after = O.taken out.new;
-            faults_before = O.faults out.old;
-            faults_after = O.faults out.new;
-        }) (record {
-            before = E.taken err.old;
-            after = E.taken err.new;
-            faults_before = E.faults err.old;
-            faults_after = E.faults err.new;
-        }) ending
-    }
+    ensures call { (ending : TheEnding) × (result ≡ status_of ending) × Call (map string_bytes words.now) (F.holds files.old) (record {
+      faults_before = F.faults files.old;
+      faults_after = F.faults files.new;
+      given = F.given files.new;
+      chosen = F.chosen files.new;
+      broken = F.broken files.new;
+    }) (record {
+      before = O.taken out.old;
+      after = O.taken out.new;
+      faults_before = O.faults out.old;
+      faults_after = O.faults out.new;
+    }) (record {
+      before = E.taken err.old;
+      after = E.taken err.new;
+      faults_before = E.faults err.old;
+      faults_after = E.faults err.new;
+    }) ending }
 
     // Wrong use is answered exactly where the words are wrong.
     ensures usage { (result ≡ Status.Usage) ↔ (command_of (map string_bytes words.now) ≡ None) }
 
     // Of a file whose bytes are known the status is that of its outcome, faults and want of memory aside.
-    ensures exact {
-        (c : Cost) (bytes : List ℕ) → command_of (map string_bytes words.now) ≡ Some c → F.holds files.old c.name ≡ Some bytes
-            → IsStatusOf (cost_outcome c.latency bytes) result
-    }
+    ensures exact { (c : Cost) (bytes : List ℕ) → command_of (map string_bytes words.now) ≡ Some c → F.holds files.old c.name ≡ Some bytes
+        → IsStatusOf (cost_outcome c.latency bytes) result }
 
     // What stays, and counts of faults never fall.
     ensures same_files { F.holds files.new ≡ F.holds files.old }

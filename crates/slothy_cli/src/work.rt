@@ -61,18 +61,14 @@ pub fn text_of_file<F: Files>(
     requires { 1 ≤ command.now.latency }
     ensures same_files { F.holds files.new ≡ F.holds files.old }
     ensures never_falls { F.faults files.old ≤ F.faults files.new }
-    ensures text {
-        IfOk result (λ text. HasText (F.holds files.old command.now.name.now) command.now.latency (string_bytes text))
-    }
-    ensures cause {
-        IfErr result (λ ending. HasCause (shown command.now) (F.holds files.old command.now.name.now) (record {
-            faults_before = F.faults files.old;
-            faults_after = F.faults files.new;
-            given = F.given files.new;
-            chosen = F.chosen files.new;
-            broken = F.broken files.new;
-        }) ending)
-    }
+    ensures text { IfOk result (λ text. HasText (F.holds files.old command.now.name.now) command.now.latency (string_bytes text)) }
+    ensures cause { IfErr result (λ ending. HasCause (shown command.now) (F.holds files.old command.now.name.now) (record {
+      faults_before = F.faults files.old;
+      faults_after = F.faults files.new;
+      given = F.given files.new;
+      chosen = F.chosen files.new;
+      broken = F.broken files.new;
+    }) ending) }
 {
     match read_all(alloc, files, command.name, FILE_BYTES) {
         Ok(bytes) => match answer(alloc, command.latency, &bytes) {

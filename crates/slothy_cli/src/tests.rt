@@ -1,0 +1,436 @@
+//! The command on files and sinks in memory.
+
+use crate::{Status, run};
+use sl_base::{MemFiles, MemSink, NoGate};
+use std::alloc::{AllocError, Global};
+use std::test::Fail;
+use std::thread::Threads;
+
+/// The region of three instructions.
+const CHAIN: &str =
+    "slothy_start:\n        add x2, x1, x0\n        eor x3, x2, x2\n        sub x4, x1, x0\nslothy_end:\n";
+
+/// What `cost` says of it at latency 2.
+const CHAIN_TEXT: &str =
+    "kind=straight n=3 cycles=4 stalls=1\nc=0 u=u i=0 line=2 add x2, x1, x0\nc=2 u=u i=1 line=3 eor x3, x2, x2\nc=3 u=u i=2 line=4 sub x4, x1, x0\n";
+
+/// The text of no instructions.
+const EMPTY_TEXT: &str = "kind=straight n=0 cycles=0 stalls=0\n";
+
+/// The message of wrong use.
+const USAGE: &str = "slothy: usage: slothy MODE [INPUT] [OPTIONS]\n";
+
+/// Which calls fail, and how much the output takes at once.
+#[derive(Clone, Copy)]
+struct Faults<'a> {
+    files: &'a [u64],
+    out: &'a [u64],
+    err: &'a [u64],
+    most: usize,
+}
+
+/// No call fails.
+const NONE: Faults<'static> = Faults {
+    files: &[],
+    out: &[],
+    err: &[],
+    most: 4096,
+};
+
+/// How a call ended, and what the sinks took.
+#[derive(Drop)]
+struct Answer {
+    status: Status,
+    out: Vec<u8>,
+    err: Vec<u8>,
+}
+
+impl Answer {
+    /// Is it this status, with these texts on output and standard error?
+    fn is(&self, status: Status, out: &str, err: &str) -> bool {
+        self.status == status
+            && self.out.as_slice() == out.as_bytes()
+            && self.err.as_slice() == err.as_bytes()
+    }
+}
+
+/// The words that are separated by single blanks, behind the program's name.
+fn words_of(alloc: Global, text: &str) -> Result<Vec<String>, AllocError> {
+    let mut words = Vec::new(alloc);
+    words.push(String::from_str(alloc, "slothy")?)?;
+    for word in text.split(' ') {
+        words.push(String::from_str(alloc, word)?)?;
+    }
+    Ok(words)
+}
+
+/// Runs words on the one file `k.s`.
+fn run_on<R: Threads + Sync>(
+    rt: &R,
+    alloc: Global,
+    words: &str,
+    text: &[u8],
+    faults: Faults<'_>,
+) -> Result<Answer, AllocError> {
+    let words = words_of(alloc, words)?;
+    let mut named = Vec::new(alloc);
+    named.push((
+        String::from_str(alloc, "k.s")?,
+        Vec::from_slice(alloc, text)?,
+    ))?;
+    let mut files = MemFiles::new(named, Vec::from_slice(alloc, faults.files)?);
+    let Ok(mut out) = MemSink::new(
+        alloc,
+        Vec::from_slice(alloc, faults.out)?,
+        faults.most.max(1),
+        65536,
+    ) else {
+        return Err(AllocError);
+    };
+    let Ok(mut err) = MemSink::new(alloc, Vec::from_slice(alloc, faults.err)?, 4096, 65536) else {
+        return Err(AllocError);
+    };
+    let status = run(rt, alloc, &words, &mut files, &mut out, &mut err, &NoGate);
+    Ok(Answer {
+        status,
+        out: Vec::from_slice(alloc, out.taken())?,
+        err: Vec::from_slice(alloc, err.taken())?,
+    })
+}
+
+#[test]
+fn a_chain_costs_what_the_issue_rule_says(rt: HostRuntime) -> Result<(), Fail> {
+    let answer = run_on(
+        &rt,
+        rt.alloc(),
+        "cost k.s --core one:2",
+        CHAIN.as_bytes(),
+        NONE,
+    )?;
+    assert!(rt; answer.is(Status::Done, CHAIN_TEXT, ""));
+    Ok(())
+}
+
+#[test]
+fn wrong_words_are_wrong_use(rt: HostRuntime) -> Result<(), Fail> {
+    let cases = [
+        "",
+        "cost",
+        "cost k.s",
+        "cost k.s --core",
+        "cost k.s --core one:2 x",
+        "cost --core one:2 k.s",
+        "k.s cost --core one:2",
+        "opt k.s --core one:2",
+        "Cost k.s --core one:2",
+        "cost k.s --cores one:2",
+        "cost k.s core one:2",
+        "cost k.s --core=one:2 x",
+        "cost  --core one:2",
+        "cost -k.s --core one:2",
+        "cost - --core one:2",
+        "cost k.s --core one:0",
+        "cost k.s --core one:256",
+        "cost k.s --core one:02",
+        "cost k.s --core one:+2",
+        "cost k.s --core one:2x",
+        "cost k.s --core one:",
+        "cost k.s --core two:2",
+        "cost k.s --core one:18446744073709551618",
+    ];
+    for words in cases {
+        let answer = run_on(&rt, rt.alloc(), words, CHAIN.as_bytes(), NONE)?;
+        assert!(rt; answer.is(Status::Usage, "", USAGE), "at {words}");
+    }
+    Ok(())
+}
+
+#[test]
+fn each_input_has_its_answer(rt: HostRuntime) -> Result<(), Fail> {
+    let cases = [
+        ("", Status::Refused, "", "slothy: k.s:0: refused: NoStart\n"),
+        (
+            "slothy_start:\n",
+            Status::Refused,
+            "",
+            "slothy: k.s:0: refused: NoEnd\n",
+        ),
+        (
+            "slothy_end:\nslothy_start:\n",
+            Status::Refused,
+            "",
+            "slothy: k.s:0: refused: NoEnd\n",
+        ),
+        (
+            "slothy_start:\nslothy_start:\nslothy_end:\n",
+            Status::Refused,
+            "",
+            "slothy: k.s:2: refused: Twice\n",
+        ),
+        (
+            "slothy_start:\nslothy_end:\n\nslothy_end:\n",
+            Status::Refused,
+            "",
+            "slothy: k.s:4: refused: Twice\n",
+        ),
+        (
+            "slothy_start:\nslothy_start:\n",
+            Status::Refused,
+            "",
+            "slothy: k.s:2: refused: Twice\n",
+        ),
+        (
+            "/*\nslothy_start:\n*/\nslothy_end:\n",
+            Status::Refused,
+            "",
+            "slothy: k.s:1: refused: NotYet\n",
+        ),
+        (
+            "f:\n.macro m\n.endm\nslothy_start:\nslothy_end:\n",
+            Status::Refused,
+            "",
+            "slothy: k.s:2: refused: NotYet\n",
+        ),
+        (
+            "a .req x1\nslothy_start:\nslothy_end:\n",
+            Status::Refused,
+            "",
+            "slothy: k.s:1: refused: NotYet\n",
+        ),
+        (
+            ".unreq a\nslothy_start:\nslothy_end:\n",
+            Status::Refused,
+            "",
+            "slothy: k.s:1: refused: NotYet\n",
+        ),
+        (
+            "slothy_start: // .macro\nslothy_end:\n",
+            Status::Refused,
+            "",
+            "slothy: k.s:1: refused: NotYet\n",
+        ),
+        (
+            "slothy_start:\r\n        add x1, x2, x3\r\nslothy_end:\r\n",
+            Status::Refused,
+            "",
+            "slothy: k.s:2: refused: NotYet\n",
+        ),
+        (
+            "slothy_start:\r\nslothy_end:\r\n",
+            Status::Done,
+            EMPTY_TEXT,
+            "",
+        ),
+        ("slothy_start:\nslothy_end:", Status::Done, EMPTY_TEXT, ""),
+        (
+            "  \tslothy_start:  // here\n slothy_end:\t\n.macro\n",
+            Status::Done,
+            EMPTY_TEXT,
+            "",
+        ),
+        (
+            "slothy_start:\n        ldr x1, [x0]\nslothy_end:\n",
+            Status::Refused,
+            "",
+            "slothy: k.s:2: refused: NotYet\n",
+        ),
+        (
+            "slothy_start:\n        add x1, x2, x3\n\nslothy_end:\n",
+            Status::Refused,
+            "",
+            "slothy: k.s:3: refused: NotYet\n",
+        ),
+        (
+            "slothy_start:\n        add x1, x2, x31\nslothy_end:\n",
+            Status::Refused,
+            "",
+            "slothy: k.s:2: refused: NotYet\n",
+        ),
+    ];
+    for (text, status, out, err) in cases {
+        let answer = run_on(
+            &rt,
+            rt.alloc(),
+            "cost k.s --core one:2",
+            text.as_bytes(),
+            NONE,
+        )?;
+        assert!(rt; answer.is(status, out, err), "at {text:?}");
+    }
+    Ok(())
+}
+
+/// A text of a front, a line so many times, and a back.
+fn repeated(
+    alloc: Global,
+    front: &str,
+    line: &str,
+    count: usize,
+    back: &str,
+) -> Result<Vec<u8>, AllocError> {
+    let mut text = Vec::from_slice(alloc, front.as_bytes())?;
+    for _ in 0..count {
+        text.extend_from_slice(line.as_bytes())?;
+    }
+    text.extend_from_slice(back.as_bytes())?;
+    Ok(text)
+}
+
+#[test]
+fn sixty_four_items_and_a_mebibyte_are_the_limits(rt: HostRuntime) -> Result<(), Fail> {
+    let alloc = rt.alloc();
+    let (start, end, item) = (
+        "slothy_start:\n",
+        "slothy_end:\n",
+        "        add x1, x1, x2\n",
+    );
+    let full = repeated(alloc, start, item, 64, end)?;
+    let answer = run_on(&rt, alloc, "cost k.s --core one:1", &full, NONE)?;
+    assert_eq!(rt; answer.status, Status::Done);
+    assert!(rt;
+        answer
+            .out
+            .starts_with(b"kind=straight n=64 cycles=64 stalls=0\n")
+    );
+    let more = repeated(alloc, start, item, 65, end)?;
+    let answer = run_on(&rt, alloc, "cost k.s --core one:1", &more, NONE)?;
+    assert!(rt;
+        answer.is(
+            Status::TooLarge,
+            "",
+            "slothy: k.s:66: too large: items limit=64\n"
+        )
+    );
+    let faulty = repeated(alloc, start, item, 64, "        nop\nslothy_end:\n")?;
+    let answer = run_on(&rt, alloc, "cost k.s --core one:1", &faulty, NONE)?;
+    assert!(rt; answer.is(Status::Refused, "", "slothy: k.s:66: refused: NotYet\n"));
+    let whole = repeated(alloc, "slothy_start:\nslothy_end:\n", "x", 1048576 - 26, "")?;
+    let answer = run_on(&rt, alloc, "cost k.s --core one:1", &whole, NONE)?;
+    assert!(rt; answer.is(Status::Done, EMPTY_TEXT, ""));
+    let longer = repeated(alloc, "slothy_start:\nslothy_end:\n", "x", 1048577 - 26, "")?;
+    let answer = run_on(&rt, alloc, "cost k.s --core one:1", &longer, NONE)?;
+    assert!(rt;
+        answer.is(
+            Status::TooLarge,
+            "",
+            "slothy: k.s:0: too large: file limit=1048576\n"
+        )
+    );
+    let wide = repeated(alloc, start, "a", 100000, "\nslothy_end:\n")?;
+    let answer = run_on(&rt, alloc, "cost k.s --core one:1", &wide, NONE)?;
+    assert!(rt; answer.is(Status::Refused, "", "slothy: k.s:2: refused: NotYet\n"));
+    Ok(())
+}
+
+#[test]
+fn bytes_that_are_no_text_are_refused_at_their_line(rt: HostRuntime) -> Result<(), Fail> {
+    let alloc = rt.alloc();
+    let cases = [
+        (0, "slothy: k.s:1: refused: NotText\n"),
+        (30, "slothy: k.s:2: refused: NotText\n"),
+        (90, "slothy: k.s:5: refused: NotText\n"),
+    ];
+    for (place, message) in cases {
+        let mut text = Vec::from_slice(alloc, CHAIN.as_bytes())?;
+        if let Some(byte) = text.get_mut(place) {
+            *byte = 0xff;
+        }
+        let answer = run_on(&rt, alloc, "cost k.s --core one:2", &text, NONE)?;
+        assert!(rt; answer.is(Status::Refused, "", message), "at {place}");
+    }
+    Ok(())
+}
+
+// Call 0 chooses the file, 1 gives its bytes, and 2 says that there are no more.
+#[test]
+fn each_failing_call_on_the_files_is_a_read_fault(rt: HostRuntime) -> Result<(), Fail> {
+    for call in 0..4u64 {
+        let faults = Faults {
+            files: &[call],
+            ..NONE
+        };
+        let answer = run_on(
+            &rt,
+            rt.alloc(),
+            "cost k.s --core one:2",
+            CHAIN.as_bytes(),
+            faults,
+        )?;
+        if call < 3 {
+            assert!(rt;
+                answer.is(Status::ReadFault, "", "slothy: read fault: k.s\n"),
+                "at {call}"
+            );
+        } else {
+            assert!(rt; answer.is(Status::Done, CHAIN_TEXT, ""), "at {call}");
+        }
+    }
+    let answer = run_on(
+        &rt,
+        rt.alloc(),
+        "cost none.s --core one:2",
+        CHAIN.as_bytes(),
+        NONE,
+    )?;
+    assert!(rt; answer.is(Status::ReadFault, "", "slothy: read fault: none.s\n"));
+    Ok(())
+}
+
+// The text has 140 bytes, which is 7 writes of at most 20.
+#[test]
+fn each_failing_write_leaves_what_was_written_before(rt: HostRuntime) -> Result<(), Fail> {
+    let alloc = rt.alloc();
+    for write in 0..8u64 {
+        let faults = Faults {
+            out: &[write],
+            most: 20,
+            ..NONE
+        };
+        let answer = run_on(
+            &rt,
+            alloc,
+            "cost k.s --core one:2",
+            CHAIN.as_bytes(),
+            faults,
+        )?;
+        let sent = 20 * write as usize;
+        if sent < CHAIN_TEXT.len() {
+            let message = format!(in alloc; "slothy: write fault after {sent} bytes\n")?;
+            assert_eq!(rt; answer.status, Status::WriteFault);
+            assert_eq!(rt; answer.out.len(), sent);
+            assert!(rt;
+                CHAIN_TEXT.as_bytes().starts_with(&answer.out),
+                "at {write}"
+            );
+            assert!(rt; answer.err.as_slice() == message.as_bytes(), "at {write}");
+        } else {
+            assert!(rt; answer.is(Status::Done, CHAIN_TEXT, ""), "at {write}");
+        }
+    }
+    Ok(())
+}
+
+// The message of a missing file is written in three pieces.
+#[test]
+fn a_failing_error_output_changes_no_status(rt: HostRuntime) -> Result<(), Fail> {
+    let cases = [
+        (0u64, ""),
+        (1, "slothy: read fault: "),
+        (2, "slothy: read fault: none.s"),
+    ];
+    for (write, taken) in cases {
+        let faults = Faults {
+            err: &[write],
+            ..NONE
+        };
+        let answer = run_on(
+            &rt,
+            rt.alloc(),
+            "cost none.s --core one:2",
+            CHAIN.as_bytes(),
+            faults,
+        )?;
+        assert!(rt; answer.is(Status::ReadFault, "", taken), "at {write}");
+    }
+    Ok(())
+}
