@@ -27,18 +27,21 @@ is_word_byte c = is_ascii_alphanumeric c || c == 95
 -- the number of bytes up to and with the first `*/`, or of all where there is none
 unfoldable pub comment_length : List ℕ → ℕ
 comment_length [] = 0
-comment_length (c ∷ text) = if starts_with nat_eq (c ∷ text) (codes "*/") then 2 else suc (comment_length text)
+comment_length (c ∷ text) =
+    if starts_with nat_eq (c ∷ text) (codes "*/") then 2 else suc (comment_length text)
 
 -- Does a text begin with a comment to the line's end?
 abbrev pub begins_line_comment : Comments → List ℕ → Bool
 begins_line_comment Slash text = starts_with nat_eq text (codes "//")
-begins_line_comment SlashAt text = starts_with nat_eq text (codes "//") || starts_with nat_eq text (codes "@")
+begins_line_comment SlashAt text =
+    starts_with nat_eq text (codes "//") || starts_with nat_eq text (codes "@")
 
 -- the first character of a text that is not empty
 abbrev pub first_char : List ℕ → ℕ
 first_char text = slice_index (chars text) 0
 
--- What a text begins with that is neither empty nor begins with a blank: the kind of its first token and the length.
+-- The kind and the length of the token that a text begins with; the text is not empty and begins with no
+-- blank.
 unfoldable pub first_token : Comments → List ℕ → TokenKind × ℕ
 first_token comments text =
     if starts_with nat_eq text (codes "/*") then (Comment, comment_length (drop 2 text) + 2)
@@ -51,28 +54,34 @@ first_token comments text =
 abbrev pub lexeme : TokenKind × ℕ → ℕ → List ℕ → Lexeme
 lexeme found place text = record { kind = found.0; text = take found.1 text; start = place }
 
--- the tokens of a text that stands at a place of its line and whose first bytes, this many, belong to the token before
+-- The tokens of a text that stands at a place of its line, where the first `taken` bytes belong to the
+-- token before.
 unfoldable pub tokens_from : Comments → ℕ → ℕ → List ℕ → List Lexeme
 tokens_from comments place taken [] = []
 tokens_from comments place (suc taken) (c ∷ text) = tokens_from comments (place + 1) taken text
 tokens_from comments place zero (c ∷ text) =
     if is_blank c then tokens_from comments (place + 1) 0 text
-    else lexeme (first_token comments (c ∷ text)) place (c ∷ text) ∷ tokens_from comments (place + 1) ((first_token comments (c ∷ text)).1 - 1) text
+    else lexeme (first_token comments (c ∷ text)) place (c ∷ text)
+    ∷ tokens_from comments (place + 1) ((first_token comments (c ∷ text)).1 - 1) text
 
--- the tokens of a text that stands at a place of its line; `inside` says that a block comment is open before it
+-- The tokens of a text that stands at a place of its line; `inside` says that a block comment is open
+-- before it.
 unfoldable pub tokens_at : Comments → Bool → ℕ → List ℕ → List Lexeme
 tokens_at comments false place text = tokens_from comments place 0 text
 tokens_at comments true place [] = []
-tokens_at comments true place (c ∷ text) = lexeme (Comment, comment_length (c ∷ text)) place (c ∷ text) ∷ tokens_from comments place (comment_length (c ∷ text)) (c ∷ text)
+tokens_at comments true place (c ∷ text) =
+    lexeme (Comment, comment_length (c ∷ text)) place (c ∷ text)
+    ∷ tokens_from comments place (comment_length (c ∷ text)) (c ∷ text)
 
 -- the tokens of a line; `inside` says that a block comment was begun above
 abbrev pub tokens : Comments → Bool → List ℕ → List Lexeme
 tokens comments inside line = tokens_at comments inside 0 line
 
--- Is a block comment open behind a token of this text, where `inside` says that one was open before it?
+-- Is a block comment open behind a token of this text, if `inside` says that one was open before it?
 abbrev pub leaves_open : Bool → List ℕ → Bool
 leaves_open true text = not (holds (codes "*/") text)
-leaves_open false text = starts_with nat_eq text (codes "/*") && not (holds (codes "*/") (drop 2 text))
+leaves_open false text =
+    starts_with nat_eq text (codes "/*") && not (holds (codes "*/") (drop 2 text))
 
 -- Is one open behind some tokens?
 unfoldable pub open_behind : Bool → List Lexeme → Bool

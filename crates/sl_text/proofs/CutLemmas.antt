@@ -4,7 +4,7 @@ use Rattle.std.proofs.lemmas.List.{append_cancel_right}
 use Rattle.sl_model.specs.Text.{whole_lines, without_end, is_marker, marker_numbers, joined, cut, cut_at, parts_at}
 use Rattle.sl_model.specs.declared.text.CutRefusal.{CutRefusal}
 use Rattle.sl_model.specs.declared.text.CutRefusal.TheVariants.{NoStart, NoEnd, Twice}
-use Rattle.sl_text.specs.Cut.{IsMarkerAt, EndsIn, only_number}
+use Rattle.sl_text.specs.Cut.{IsMarkerAt, EndsIn, only_number, numbers_in}
 use Rattle.sl_text.proofs.LineLemmas.{joined-whole_lines, joined_split}
 
 -- ---- the numbers of marker lines
@@ -76,10 +76,6 @@ at_both lines (n ∷ []) (m ∷ []) start end e f =
     let start_is : n ≡ start = cc in
     let end_is : m ≡ end = cc in
     ap (λ v. cond (nat_lt v m) (Ok (parts_at lines v m)) (Err NoEnd)) start_is ∙ ap (λ v. cond (nat_lt start v) (Ok (parts_at lines start v)) (Err NoEnd)) end_is
-
--- the numbers of a label's marker lines in a text
-abbrev numbers_in : List ℕ → List ℕ → List ℕ
-numbers_in label text = marker_numbers label 1 (whole_lines text)
 
 pub cut_start_refused : (start end text : List ℕ) (refusal : CutRefusal) → only_number NoStart (numbers_in start text) ≡ Err refusal → cut start end text ≡ Err refusal
 unfolding cut

@@ -18,17 +18,24 @@ parts_of cut = record {
 abbrev pub EndsIn : List ℕ → List ℕ → Type 0
 EndsIn text rest = (front : List ℕ) × (text ≡ front ++ rest)
 
--- In a text whose lines are numbered from a first one, the first marker line of the label has this number, and these
--- are the texts from its start and below it.
-pub record IsMarkerAt (label : List ℕ) (first : ℕ) (text : List ℕ) (number : ℕ) (from below : List ℕ) : Type 0 where
-  pub numbers : marker_numbers label first (whole_lines text) ≡ number ∷ marker_numbers label (number + 1) (whole_lines below)
+-- In a text whose lines are numbered from a first one, the first marker line of the label has this
+-- number, and these are the texts from its start and below it.
+pub record IsMarkerAt (label : List ℕ) (first : ℕ) (text : List ℕ)
+    (number : ℕ) (from below : List ℕ) : Type 0 where
+  pub numbers : marker_numbers label first (whole_lines text)
+      ≡ number ∷ marker_numbers label (number + 1) (whole_lines below)
   pub low : first ≤ number
   pub high : number + length from ≤ first + length text
   pub from_lines : whole_lines from ≡ drop (number - first) (whole_lines text)
   pub below_lines : whole_lines below ≡ drop (number - first + 1) (whole_lines text)
   pub shorter : length below < length from
 
--- the only number of a list; where there is none, the refusal for that, and where there are more, `Twice` at the second
+-- the numbers of a label's marker lines in a text
+abbrev pub numbers_in : List ℕ → List ℕ → List ℕ
+numbers_in label text = marker_numbers label 1 (whole_lines text)
+
+-- The only number of a list. Where there is none, the refusal for that; where there are more, `Twice`
+-- at the second.
 abbrev pub only_number : CutRefusal → List ℕ → Result ℕ CutRefusal
 only_number absent [] = Err absent
 only_number absent (number ∷ []) = Ok number

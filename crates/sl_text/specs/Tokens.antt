@@ -33,11 +33,13 @@ shape comments true text = (Comment, comment_length text)
 shape comments false text = first_token comments text
 
 -- this is what the text begins with
-pub record IsFirst (comments : Comments) (inside : Bool) (text : List ℕ) (found : TokenKind × ℕ) : Type 0 where
+pub record IsFirst (comments : Comments) (inside : Bool) (text : List ℕ)
+    (found : TokenKind × ℕ) : Type 0 where
   pub shape_is : found ≡ shape comments inside text
   pub some : 0 < length text
 
--- a call of `next` gives the first token that was left, and keeps whether a comment is open behind it
+-- a call of `next` gives the first token that was left, and keeps track of an open comment
 pub record GivesToken (old : Tokens) (given : Option Token) (new : Tokens) : Type 0 where
   pub tokens : YieldsFirstBy token_value tokens_left old given new
-  pub inside : MatchOption given (is_inside new ≡ is_inside old) (λ token. is_inside new ≡ leaves_open (is_inside old) token.text.now)
+  pub inside : MatchOption given (is_inside new ≡ is_inside old)
+      (λ token. is_inside new ≡ leaves_open (is_inside old) token.text.now)

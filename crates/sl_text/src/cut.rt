@@ -32,14 +32,15 @@ fn front<'a>(text: &'a str, rest: &str) -> &'a str
 /// # Errors
 ///
 /// In this order: [`CutRefusal::Twice`] for a second start marker, [`CutRefusal::NoStart`],
-/// [`CutRefusal::Twice`] for a second end marker, and [`CutRefusal::NoEnd`] where no end marker stands
-/// below the start marker.
+/// [`CutRefusal::Twice`] for a second end marker, and [`CutRefusal::NoEnd`] where no end marker
+/// stands below the start marker.
 pub fn cut_region<'a>(text: &'a str, start: &str, end: &str) -> Result<Cut<'a>, CutRefusal>
     requires { length text.now < 2 ^ 31 }
     ensures cut { MatchResult result
         (λ cut. spec.cut start.now end.now text.now ≡ Ok (parts_of cut))
         (λ refusal. spec.cut start.now end.now text.now ≡ Err refusal) }
-    ensures joined { IfOk result (λ cut. cut.before.now ++ cut.body.now ++ cut.after.now ≡ text.now) }
+    ensures joined { IfOk result
+        (λ cut. cut.before.now ++ cut.body.now ++ cut.after.now ≡ text.now) }
     ensures first { IfOk result (λ cut. cut.first < 2 ^ 31) }
 {
     let start = only_marker(text, start, CutRefusal::NoStart)?;

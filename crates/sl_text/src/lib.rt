@@ -5,7 +5,7 @@
 pub mod cut;
 pub mod line;
 mod marker;
-pub mod scan;
+mod scan;
 pub mod text;
 pub mod token;
 

@@ -1,7 +1,7 @@
 //! Marker lines: a label with a colon, alone on its line.
 ghost use Rattle.std.specs.Prelude.{◌≡◌, ◌+◌, ◌<◌, ◌^◌, [], ◌∷◌, length, MatchOption, MatchResult, codes};
 ghost use Rattle.sl_model.specs.Text as spec;
-ghost use Rattle.sl_text.specs.Cut.{IsMarkerAt, only_number};
+ghost use Rattle.sl_text.specs.Cut.{IsMarkerAt, numbers_in, only_number};
 
 use crate::text::{split_line, without_end};
 use sl_model::text::CutRefusal;
@@ -57,7 +57,8 @@ fn next_marker<'a>(text: &'a str, label: &str, first: u32) -> Option<Marker<'a>>
     requires { first + length text.now < 2 ^ 32 }
     ensures { MatchOption result
         (spec.marker_numbers label.now first (spec.whole_lines text.now) ≡ [])
-        (λ marker. IsMarkerAt label.now first text.now marker.number marker.from.now marker.below.now) }
+        (λ marker. IsMarkerAt label.now first text.now
+        marker.number marker.from.now marker.below.now) }
 {
     let mut rest = text;
     let mut number = first;
@@ -87,9 +88,9 @@ pub fn only_marker<'a>(
 ) -> Result<Marker<'a>, CutRefusal>
     requires { length text.now < 2 ^ 31 }
     ensures { MatchResult result
-        (λ marker. (only_number absent (spec.marker_numbers label.now 1 (spec.whole_lines text.now)) ≡ Ok marker.number)
+        (λ marker. (only_number absent (numbers_in label.now text.now) ≡ Ok marker.number)
         × IsMarkerAt label.now 1 text.now marker.number marker.from.now marker.below.now)
-        (λ refusal. only_number absent (spec.marker_numbers label.now 1 (spec.whole_lines text.now)) ≡ Err refusal) }
+        (λ refusal. only_number absent (numbers_in label.now text.now) ≡ Err refusal) }
 {
     let Some(marker) = next_marker(text, label, 1) else {
         return Err(absent);

@@ -18,7 +18,8 @@ pub fn tokens<'a>(line: Line<'a>, comments: Comments, inside: bool) -> Tokens<'a
     ensures all { tokens_left result ≡ spec.tokens comments inside line.entry.text.now }
     ensures state { is_inside result ≡ inside }
     ensures count { length (tokens_left result) ≤ length line.entry.text.now }
-    ensures within { All (λ token. token.start + length token.text ≤ length line.entry.text.now) (tokens_left result) }
+    ensures within { All (λ token. token.start + length token.text ≤ length line.entry.text.now)
+        (tokens_left result) }
 {
     Tokens {
         rest: line.text,
@@ -67,8 +68,8 @@ fn blank_length(text: &[u8]) -> usize
         .count()
 }
 
-/// The number of blanks before the next token of a text, where `inside` says that a block comment is
-/// open before it: a blank belongs to the comment.
+/// The number of blanks before the next token of a text, where `inside` says that a block comment
+/// is open before it: a blank belongs to the comment.
 pub fn blanks_before(text: &str, inside: bool) -> usize
     ensures value { result ≡ blanks_before inside text.now }
     ensures boundary { IsCharBoundary text.now result }
@@ -104,7 +105,8 @@ fn begins_line_comment(text: &[u8], comments: Comments) -> bool
 
 // The first character of a text.
 fn first_char(text: &str) -> Option<char>
-    ensures { MatchOption result (text.now ≡ []) (λ first. (first ≡ spec.first_char text.now) × (0 < length text.now)) }
+    ensures { MatchOption result (text.now ≡ [])
+        (λ first. (first ≡ spec.first_char text.now) × (0 < length text.now)) }
 {
     text.chars().next()
 }
@@ -133,7 +135,8 @@ fn first_token(text: &[u8], first: char, comments: Comments) -> (TokenKind, usiz
 /// The kind and the length of the token that a text begins with, where `inside` says that a block
 /// comment is open before it, and else it does not begin with a blank.
 pub fn next_token(text: &str, comments: Comments, inside: bool) -> Option<(TokenKind, usize)>
-    ensures found { MatchOption result (text.now ≡ []) (λ found. IsFirst comments inside text.now found) }
+    ensures found { MatchOption result (text.now ≡ [])
+        (λ found. IsFirst comments inside text.now found) }
     ensures boundary { IfSome result (λ found. IsCharBoundary text.now found.1) }
 {
     let first = first_char(text)?;
