@@ -6,7 +6,7 @@ use Rattle.std.specs.Prelude.{if◌then◌else◌, nat_lt, int_le, bit_xor, ◌=
 use Rattle.std.proofs.lemmas.Nat.{xor_mod}
 use Rattle.std.proofs.lemmas.Nat.Bits.{bit_at_ones}
 use Rattle.std.proofs.Math.Nat.{div-le_self, mod-eq_of_lt, mod-add-mod}
-use Rattle.std.specs.List.{list_all, list_any, zip}
+use Rattle.std.specs.List.{list_all, list_any, filter_map, zip}
 use Rattle.sl_model.specs.declared.register.Bank.{Bank}
 use Rattle.sl_model.specs.declared.register.Bank.TheVariants.{General, Vector, Flags, Stack}
 use Rattle.sl_model.specs.declared.register.Reg.{Reg}
@@ -17,17 +17,17 @@ use Rattle.sl_model.specs.declared.instruction.ArchName.TheVariants.{Arm64}
 use Rattle.sl_model.specs.RegSets.{set_has, set_count}
 use Rattle.sl_model.specs.Register.{same_reg}
 use Rattle.sl_model.specs.Body.{all_differ}
-use Rattle.sl_model.specs.Source.{operands, outputs, place_from}
+use Rattle.sl_model.specs.Source.{operands, outputs, padded, place_from}
 use Rattle.sl_model.specs.Machine.{limit_of, can_count}
 use Rattle.sl_model.specs.Isa.{Isa, Op, op_of, address_at}
 use Rattle.sl_model.specs.Exec.{has_access, is_store, base_value}
-use Rattle.sl_model.specs.Lawful.{IsValid, IsLawful, IsBelow, fit, are_bytes, load_size, suits_set, zero_register}
+use Rattle.sl_model.specs.Lawful.{IsValid, IsLawful, IsBelow, fit, are_bytes, load_size, suits_set, is_tied_to, zero_register}
 use Rattle.sl_isa.specs.declared.arch.CounterOp.{CounterOp}
 use Rattle.sl_isa.specs.declared.arch.CounterOp.TheVariants.{Sub, Subs, Lsr}
 use Rattle.sl_isa.specs.Arch.{IsStep, Steps, flags_register, access_of, stored_by}
 use Rattle.machine_sem.specs.declared.few_forms.Form.{Form}
 use Rattle.machine_sem.specs.declared.few_forms.Form.TheVariants.{AddRegisters, SubRegisters, EorRegisters, SubNumber, SubsNumber, LsrNumber, LoadHalf, StoreHalf}
-use Rattle.machine_sem.specs.FewForms.{few_isa, few_step, form_of, info_of, offset_by, values_by, stored_by_form, number_in, operand_in, less, access_by, flags_of, x_registers, the_flags}
+use Rattle.machine_sem.specs.FewForms.{few_isa, few_step, form_of, info_of, offset_by, values_by, stored_by_form, number_in, operand_in, less, access_by, example, example_ins, example_outs, flags_of, x_registers, the_flags}
 
 both : (a b : Bool) → (a && b) ≡ true → (a ≡ true) × (b ≡ true)
 both true b h = (refl, h)
@@ -283,3 +283,43 @@ stored_of_form ins = each (λ form. stored_by_form form ins ≡ (if is_store (in
 pub stored_is : (i : Instr) (ins : List ℕ) → stored_by_form (form_of i.form) ins ≡ stored_by few_isa i ins
 unfolding few_isa stored_by
 stored_is i ins = stored_of_form ins (form_of i.form)
+
+-- Registers are those that a form takes.
+record Suits (form : Form) (ins outs : List (Option Reg)) : Type 0 where
+  ins_shape : ins ≡ padded 4 (filter_map (λ r. r) ins)
+  outs_shape : outs ≡ padded 3 (filter_map (λ r. r) outs)
+  operand_count : length (filter_map (λ r. r) ins) ≡ set_count (info_of form).in_sets
+  output_count : length (filter_map (λ r. r) outs) ≡ set_count (info_of form).out_sets
+  operand_classes : list_all suits_set (zip (filter_map (λ r. r) ins) (info_of form).in_sets) ≡ true
+  output_classes : list_all suits_set (zip (filter_map (λ r. r) outs) (info_of form).out_sets) ≡ true
+  distinct : all_differ (filter_map (λ r. r) outs) ≡ true
+  tied : list_all (is_tied_to (filter_map (λ r. r) ins)) (zip (filter_map (λ r. r) outs) (info_of form).tied) ≡ true
+
+example_suits : (form : Form) → Suits form (example_ins form) (example_outs form)
+unfolding set_has set_count all_differ place_from same_reg
+example_suits = each (λ form. Suits form (example_ins form) (example_outs form))
+    (record { ins_shape = refl; outs_shape = refl; operand_count = refl; output_count = refl; operand_classes = refl; output_classes = refl; distinct = refl; tied = refl })
+    (record { ins_shape = refl; outs_shape = refl; operand_count = refl; output_count = refl; operand_classes = refl; output_classes = refl; distinct = refl; tied = refl })
+    (record { ins_shape = refl; outs_shape = refl; operand_count = refl; output_count = refl; operand_classes = refl; output_classes = refl; distinct = refl; tied = refl })
+    (record { ins_shape = refl; outs_shape = refl; operand_count = refl; output_count = refl; operand_classes = refl; output_classes = refl; distinct = refl; tied = refl })
+    (record { ins_shape = refl; outs_shape = refl; operand_count = refl; output_count = refl; operand_classes = refl; output_classes = refl; distinct = refl; tied = refl })
+    (record { ins_shape = refl; outs_shape = refl; operand_count = refl; output_count = refl; operand_classes = refl; output_classes = refl; distinct = refl; tied = refl })
+    (record { ins_shape = refl; outs_shape = refl; operand_count = refl; output_count = refl; operand_classes = refl; output_classes = refl; distinct = refl; tied = refl })
+    (record { ins_shape = refl; outs_shape = refl; operand_count = refl; output_count = refl; operand_classes = refl; output_classes = refl; distinct = refl; tied = refl })
+
+-- each example is an instruction of the set
+pub example_valid : (form number : ℕ) → form < 8 → number < 64 → IsValid few_isa (example form number)
+unfolding few_isa
+example_valid form number known small =
+    let suits = example_suits (form_of form) in
+    record {
+      op = both_hold _ _ (lt-ltb form 8 known) (both_hold _ _ (le-leb 0 number (omega arith)) (lt-ltb number 64 small));
+      ins_shape = suits.ins_shape;
+      outs_shape = suits.outs_shape;
+      operand_count = suits.operand_count;
+      output_count = suits.output_count;
+      operand_classes = suits.operand_classes;
+      output_classes = suits.output_classes;
+      distinct = suits.distinct;
+      tied = suits.tied;
+    }

@@ -21,25 +21,25 @@ pub returns-in_default : goal.returns-in_default
 unfolding restored with_regs back
 returns-in_default c =
     ap (with_regs (from_entries c.self.inside.memory.entries))
-        (one_removed nat_list_cmp_total keys_differ c.self.inside.regs.entries c.remove.new.self.entries c.key.result c.remove.ensures.updates.0
-        ∙ ap (λ k. remove (from_entries c.self.inside.regs.entries) k) c.key.ensures)
+    (one_removed nat_list_cmp_total keys_differ c.self.inside.regs.entries c.remove.new.self.entries c.key.result c.remove.ensures.updates.0
+    ∙ ap (λ k. remove (from_entries c.self.inside.regs.entries) k) c.key.ensures)
     ∙ ap (back (reg_key c.args.reg) None) c.self.view_is
     ∙ ap (λ b. back (reg_key c.args.reg) b c.args.self.now) (sym c.in_default.is)
 
 pub unreachable-requires : goal.unreachable-requires
 unreachable-requires c =
     let absent : get c.args.self.now.regs (reg_key c.args.reg) ≡ None =
-        ap (λ s. get s.regs (reg_key c.args.reg)) (sym c.self.view_is)
-        ∙ get_kept nat_list_cmp_total keys_differ c.self.inside.regs.entries (reg_key c.args.reg)
-        ∙ ap (λ k. lookup (is_at (slice_cmp nat_cmp k)) c.self.inside.regs.entries) (sym c.key-2.ensures)
-        ∙ c.in_default-insert.ensures.absent in
+    ap (λ s. get s.regs (reg_key c.args.reg)) (sym c.self.view_is)
+    ∙ get_kept nat_list_cmp_total keys_differ c.self.inside.regs.entries (reg_key c.args.reg)
+    ∙ ap (λ k. lookup (is_at (slice_cmp nat_cmp k)) c.self.inside.regs.entries) (sym c.key-2.ensures)
+    ∙ c.in_default-insert.ensures.absent in
     true≢false (sym (subst IsSome absent c.requires))
 
 pub returns : goal.returns
 unfolding restored with_regs back
 returns c =
     ap (with_regs (from_entries c.self.inside.memory.entries))
-        (one_set nat_list_cmp_total keys_differ c.self.inside.regs.entries c.insert.new.self.entries c.key-2.result c.in-Some.value c.in-Ok.ensures.updates.0
-        ∙ ap (λ k. insert (from_entries c.self.inside.regs.entries) k c.in-Some.value) c.key-2.ensures)
+    (one_set nat_list_cmp_total keys_differ c.self.inside.regs.entries c.insert.new.self.entries c.key-2.result c.in-Some.value c.in-Ok.ensures.updates.0
+    ∙ ap (λ k. insert (from_entries c.self.inside.regs.entries) k c.in-Some.value) c.key-2.ensures)
     ∙ ap (back (reg_key c.args.reg) (Some c.in-Some.value)) c.self.view_is
     ∙ ap (λ b. back (reg_key c.args.reg) b c.args.self.now) (sym c.in-Some.is)

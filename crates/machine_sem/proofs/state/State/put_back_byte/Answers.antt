@@ -21,22 +21,22 @@ pub returns-in_default : goal.returns-in_default
 unfolding restored with_memory back
 returns-in_default c =
     ap (with_memory (from_entries c.self.inside.regs.entries))
-        (one_removed nat_cmp_total nat_cmp-IsAntisymmetric c.self.inside.memory.entries c.remove.new.self.entries c.args.address c.remove.ensures.updates.0)
+    (one_removed nat_cmp_total nat_cmp-IsAntisymmetric c.self.inside.memory.entries c.remove.new.self.entries c.args.address c.remove.ensures.updates.0)
     ∙ ap (back c.args.address None) c.self.view_is
     ∙ ap (λ b. back c.args.address b c.args.self.now) (sym c.in_default.is)
 
 pub unreachable-requires : goal.unreachable-requires
 unreachable-requires c =
     let absent : get c.args.self.now.memory c.args.address ≡ None =
-        ap (λ s. get s.memory c.args.address) (sym c.self.view_is)
-        ∙ get_kept nat_cmp_total nat_cmp-IsAntisymmetric c.self.inside.memory.entries c.args.address
-        ∙ c.in_default-insert.ensures.absent in
+    ap (λ s. get s.memory c.args.address) (sym c.self.view_is)
+    ∙ get_kept nat_cmp_total nat_cmp-IsAntisymmetric c.self.inside.memory.entries c.args.address
+    ∙ c.in_default-insert.ensures.absent in
     true≢false (sym (subst IsSome absent c.requires))
 
 pub returns : goal.returns
 unfolding restored with_memory back
 returns c =
     ap (with_memory (from_entries c.self.inside.regs.entries))
-        (one_set nat_cmp_total nat_cmp-IsAntisymmetric c.self.inside.memory.entries c.insert.new.self.entries c.args.address c.in-Some.value c.in-Ok.ensures.updates.0)
+    (one_set nat_cmp_total nat_cmp-IsAntisymmetric c.self.inside.memory.entries c.insert.new.self.entries c.args.address c.in-Some.value c.in-Ok.ensures.updates.0)
     ∙ ap (back c.args.address (Some c.in-Some.value)) c.self.view_is
     ∙ ap (λ b. back c.args.address b c.args.self.now) (sym c.in-Some.is)
