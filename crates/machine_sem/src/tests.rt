@@ -1,5 +1,5 @@
-ghost use Rattle.std.specs.Prelude.{◌<◌, IfOk};
-ghost use Rattle.sl_model.specs.Lawful.{IsValid};
+ghost use Rattle.std.specs.Prelude.{◌≡◌, IfOk};
+ghost use Rattle.sl_model.specs.declared.register.Bank.TheVariants.{General};
 ghost use Rattle.machine_sem.specs.Fits.{Fits};
 ghost use Rattle.machine_sem.specs.FewForms.{few_isa};
 
@@ -9,7 +9,9 @@ use sl_isa::{Bank, Instr, Reg};
 use std::alloc::{AllocError, Global};
 use std::test::Fail;
 
-fn register(bank: Bank, symbolic: bool, number: u16) -> Reg {
+fn register(bank: Bank, symbolic: bool, number: u16) -> Reg
+    ensures { result.bank ≡ bank }
+{
     Reg {
         bank,
         symbolic,
@@ -17,7 +19,9 @@ fn register(bank: Bank, symbolic: bool, number: u16) -> Reg {
     }
 }
 
-fn x(number: u16) -> Reg {
+fn x(number: u16) -> Reg
+    ensures { result.bank ≡ General }
+{
     register(Bank::General, false, number)
 }
 
@@ -48,7 +52,6 @@ fn what_was_set_is_read(rt: HostRuntime) -> Result<(), Fail> {
 }
 
 // A state with values in x1 and x2.
-#[tactic(auto, unfolding(crate::specs::FewForms::few_isa), using(crate::specs::FewLaws::few_lawful))]
 fn start(alloc: Global, left: u64, right: u64) -> Result<State, NoMemory>
     ensures { IfOk result (λ s. Fits few_isa s) }
 {
