@@ -3,11 +3,10 @@ use Rattle.std.proofs.Common.{◌≡◌, ℕ, zero, suc, ◌+◌, ◌%◌, ◌^�
 use Rattle.std.proofs.lemmas.Bool.{true≢false, ltb-true, lt-ltb}
 use Rattle.std.proofs.lemmas.Nat.{mod_below}
 use Rattle.std.specs.Prelude.{if◌then◌else◌, nat_lt}
-use Rattle.std.specs.List.{list_all, zip}
 use Rattle.std.specs.Ordering.{eq_by_cmp, nat_cmp}
 use Rattle.std.specs.Cmp.{Equal-is, nat_cmp_total}
 use Rattle.std.specs.Cmp.Lexicographic.{slice_cmp, nat_list_cmp_total}
-use Rattle.std.specs.FinMap.{FinMap, get, insert, get-empty, get-insert, nat_cmp-IsAntisymmetric}
+use Rattle.std.specs.FinMap.{get, get-empty, get-insert, nat_cmp-IsAntisymmetric}
 use Rattle.sl_model.specs.declared.register.Bank.{Bank}
 use Rattle.sl_model.specs.declared.register.Bank.TheVariants.{General, Vector, Flags, Stack}
 use Rattle.sl_model.specs.declared.register.Reg.{Reg}
@@ -19,7 +18,7 @@ use Rattle.sl_model.specs.Source.{operands, outputs}
 use Rattle.sl_model.specs.State.{State, reg_key, is_zero, read, write, write_all, byte, put, load, store}
 use Rattle.sl_model.specs.Machine.{limit_of}
 use Rattle.sl_model.specs.Isa.{Isa, op_of}
-use Rattle.sl_model.specs.Exec.{is_load, is_store, address_of, loaded_by, values_of, memory_after, operand_values, exec, run}
+use Rattle.sl_model.specs.Exec.{is_load, is_store, address_of, loaded_by, values_of, memory_after, operand_values, exec}
 use Rattle.sl_model.specs.Lawful.{IsValid, IsLawful, fit, are_bytes}
 use Rattle.sl_isa.specs.Arch.{AreOperands}
 use Rattle.machine_sem.specs.Fits.{Fits}

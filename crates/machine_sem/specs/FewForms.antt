@@ -1,6 +1,6 @@
 -- A small instruction set of x registers, with a counter's steps, a load and a store: what the laws of instruction
 -- sets ask for can be met. Source: DDI 0487, A64 base instructions.
-use Rattle.std.specs.Prelude.{ℕ, ℤ, Bool, true, false, pos, ◌+◌, ◌-◌, ◌*◌, ◌/◌, ◌%◌, ◌^◌, ◌==◌, ◌&&◌, nat_lt, int_le, unsigned_abs, bit_xor, List, [], ◌∷◌, slice_index, slice_index_or, Option, None, Some, if◌then◌else◌}
+use Rattle.std.specs.Prelude.{ℕ, ℤ, true, false, pos, ◌+◌, ◌-◌, ◌*◌, ◌/◌, ◌%◌, ◌^◌, ◌==◌, ◌&&◌, nat_lt, int_le, unsigned_abs, bit_xor, List, [], ◌∷◌, slice_index, slice_index_or, Option, None, Some, if◌then◌else◌}
 use Rattle.sl_model.specs.declared.register.Bank.TheVariants.{General}
 use Rattle.sl_model.specs.declared.register.Reg.{Reg}
 use Rattle.sl_model.specs.declared.register.RegSet.{RegSet}
@@ -9,7 +9,7 @@ use Rattle.sl_model.specs.declared.instruction.Access.{Access}
 use Rattle.sl_model.specs.declared.instruction.FormInfo.{FormInfo}
 use Rattle.sl_model.specs.declared.instruction.Instr.{Instr}
 use Rattle.sl_model.specs.Machine.{space_of, limit_of}
-use Rattle.sl_model.specs.Isa.{Isa, Op}
+use Rattle.sl_model.specs.Isa.{Isa}
 use Rattle.sl_isa.specs.declared.arch.CounterOp.{CounterOp}
 use Rattle.sl_isa.specs.declared.arch.CounterOp.TheVariants.{Sub, Subs, Lsr}
 use Rattle.sl_isa.specs.Arch.{flags_register}

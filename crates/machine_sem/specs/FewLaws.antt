@@ -1,8 +1,8 @@
 -- The small instruction set is lawful.
-use Rattle.std.proofs.Common.{◌≡◌, ℕ, ℤ, pos, zero, suc, ◌+◌, ◌-◌, ◌*◌, ◌/◌, ◌%◌, ◌^◌, ◌<◌, ◌≤◌, ◌≤ℤ◌, ◌+ℤ◌, Bool, true, false, not, cond, ◌&&◌, List, [], ◌∷◌, length, slice_index, Option, None, Some, refl, sym, ap, subst, ◌∙◌, arith, lit<, lit≤, rules, add-zero}
+use Rattle.std.proofs.Common.{◌≡◌, ℕ, pos, zero, suc, ◌+◌, ◌-◌, ◌*◌, ◌/◌, ◌%◌, ◌^◌, ◌<◌, ◌≤◌, ◌≤ℤ◌, ◌+ℤ◌, Bool, true, false, ◌&&◌, List, [], ◌∷◌, length, slice_index, Option, None, Some, refl, sym, ap, subst, ◌∙◌, arith, lit<, lit≤, rules, add-zero}
 use Rattle.std.proofs.lemmas.Bool.{true≢false, ltb-true, lt-ltb, le-leb}
 use Rattle.std.proofs.lemmas.Nat.{mod_below}
-use Rattle.std.specs.Prelude.{if◌then◌else◌, nat_lt, int_le, bit_xor, ◌==◌}
+use Rattle.std.specs.Prelude.{if◌then◌else◌, nat_lt, bit_xor, ◌==◌}
 use Rattle.std.proofs.lemmas.Nat.{xor_mod}
 use Rattle.std.proofs.lemmas.Nat.Bits.{bit_at_ones}
 use Rattle.std.proofs.Math.Nat.{div-le_self, mod-eq_of_lt, mod-add-mod}
@@ -11,17 +11,16 @@ use Rattle.sl_model.specs.declared.register.Bank.{Bank}
 use Rattle.sl_model.specs.declared.register.Bank.TheVariants.{General, Vector, Flags, Stack}
 use Rattle.sl_model.specs.declared.register.Reg.{Reg}
 use Rattle.sl_model.specs.declared.register.RegSet.{RegSet}
-use Rattle.sl_model.specs.declared.instruction.Access.{Access}
 use Rattle.sl_model.specs.declared.instruction.Instr.{Instr}
 use Rattle.sl_model.specs.declared.instruction.ArchName.TheVariants.{Arm64}
 use Rattle.sl_model.specs.RegSets.{set_has, set_count}
 use Rattle.sl_model.specs.Register.{same_reg}
 use Rattle.sl_model.specs.Body.{all_differ}
-use Rattle.sl_model.specs.Source.{operands, outputs, padded, place_from}
+use Rattle.sl_model.specs.Source.{outputs, padded, place_from}
 use Rattle.sl_model.specs.Machine.{limit_of, can_count}
-use Rattle.sl_model.specs.Isa.{Isa, Op, op_of, address_at}
+use Rattle.sl_model.specs.Isa.{Op, address_at}
 use Rattle.sl_model.specs.Exec.{has_access, is_store, base_value}
-use Rattle.sl_model.specs.Lawful.{IsValid, IsLawful, IsBelow, fit, are_bytes, load_size, suits_set, is_tied_to, zero_register}
+use Rattle.sl_model.specs.Lawful.{IsValid, IsLawful, IsBelow, fit, are_bytes, suits_set, is_tied_to, zero_register}
 use Rattle.sl_isa.specs.declared.arch.CounterOp.{CounterOp}
 use Rattle.sl_isa.specs.declared.arch.CounterOp.TheVariants.{Sub, Subs, Lsr}
 use Rattle.sl_isa.specs.Arch.{IsStep, Steps, flags_register, access_of, stored_by}

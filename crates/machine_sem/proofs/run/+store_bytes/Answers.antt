@@ -1,6 +1,5 @@
-use Rattle.std.proofs.Common.{◌≡◌, ℕ, ◌∷◌, ◌+◌, ◌%◌, length, refl, sym, ap, subst, ◌∙◌}
-use Rattle.sl_model.specs.State.{State, write_all, put, store}
-use Rattle.sl_model.specs.Source.{outputs}
+use Rattle.std.proofs.Common.{ℕ, sym, ap, ◌∙◌}
+use Rattle.sl_model.specs.State.{State, write_all, store}
 use Rattle.sl_model.specs.Machine.{space_of}
 use Rattle.machine_sem.proofs.Undo.{put_is_there, byte_back, with_byte}
 use Rattle.machine_sem.proofs.Wrapped.{store_next}

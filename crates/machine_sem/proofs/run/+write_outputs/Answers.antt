@@ -1,4 +1,4 @@
-use Rattle.std.proofs.Common.{◌≡◌, ℕ, ◌∷◌, ◌+◌, ◌%◌, length, refl, sym, ap, subst, ◌∙◌}
+use Rattle.std.proofs.Common.{◌∙◌}
 use Rattle.machine_sem.proofs.Undo.{written_is_there, written_back}
 use Rattle.machine_sem.proofs.run.+write_outputs.Goals as goal
 

@@ -1,4 +1,4 @@
-use Rattle.std.proofs.Common.{◌≡◌, ◌≤◌, length, take, sym, ap, subst, IfSome, ◌∙◌}
+use Rattle.std.proofs.Common.{◌≤◌, length, take, sym, ap, subst, IfSome, ◌∙◌}
 use Rattle.std.proofs.lemmas.Result.{IfOk-equal}
 use Rattle.sl_model.specs.Exec.{exec}
 use Rattle.sl_isa.specs.Arch.{stored_by}

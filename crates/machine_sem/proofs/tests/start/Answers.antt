@@ -1,4 +1,4 @@
-use Rattle.std.proofs.Common.{ℕ, ◌<◌, ◌^◌, ◌≡◌, sym, ap, subst, rules}
+use Rattle.std.proofs.Common.{ℕ, ◌<◌, ◌^◌, ◌≡◌, sym, subst, rules}
 use Rattle.sl_model.specs.declared.register.Bank.{Bank}
 use Rattle.sl_model.specs.declared.register.Bank.TheVariants.{General}
 use Rattle.machine_sem.specs.FewForms.{few_isa}
@@ -12,5 +12,5 @@ small bank value is fits = subst (λ b. value < few_isa.limit b) (sym is) fits
 pub returns : goal.returns
 returns c =
     c.set_reg-2.ensures.fits few_isa few_lawful (small _ _ c.x-2.ensures (search rules))
-        (c.set_reg.ensures.fits few_isa few_lawful (small _ _ c.x.ensures (search rules))
-            (c.new-state.ensures.fits few_isa few_lawful))
+    (c.set_reg.ensures.fits few_isa few_lawful (small _ _ c.x.ensures (search rules))
+    (c.new-state.ensures.fits few_isa few_lawful))

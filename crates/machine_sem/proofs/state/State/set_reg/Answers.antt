@@ -1,15 +1,11 @@
-use Rattle.std.proofs.Common.{◌≡◌, ℕ, Option, Some, None, IsSome, refl, sym, ap, subst, ◌∙◌}
+use Rattle.std.proofs.Common.{ℕ, sym, ap, subst, ◌∙◌}
 use Rattle.std.specs.Ordering.{nat_cmp}
-use Rattle.std.specs.Cmp.{nat_cmp_total}
 use Rattle.std.specs.Cmp.Lexicographic.{slice_cmp, nat_list_cmp_total}
-use Rattle.std.specs.BTreeMap.{is_at}
-use Rattle.std.specs.Map.{lookup}
-use Rattle.std.specs.FinMap.{FinMap, get, insert, remove, nat_cmp-IsAntisymmetric, from_entries}
-use Rattle.sl_model.specs.State.{State, reg_key, write, put}
-use Rattle.machine_sem.specs.StateCode.{restored}
+use Rattle.std.specs.FinMap.{FinMap, insert, from_entries}
+use Rattle.sl_model.specs.State.{State, write}
 use Rattle.machine_sem.specs.Fits.{Fits}
-use Rattle.machine_sem.proofs.Fitting.{write_fits, put_fits}
-use Rattle.machine_sem.proofs.Maps.{get_kept, one_set, one_removed, keys_differ}
+use Rattle.machine_sem.proofs.Fitting.{write_fits}
+use Rattle.machine_sem.proofs.Maps.{one_set, keys_differ}
 use Rattle.machine_sem.proofs.state.State.set_reg.Goals as goal
 
 pub returns-clause-ok : goal.returns-clause-ok
