@@ -103,11 +103,11 @@ impl State {
         requires { IsSome (get self.old.regs (reg_key reg)) }
         ensures { self.new ≡ record { regs = restored self.old.regs (reg_key reg) before; memory = self.old.memory } }
     {
-        let Some(value) = before else {
+        let Some(earlier) = before else {
             self.regs.remove(&key(reg));
             return;
         };
-        let Ok(_) = self.regs.insert(key(reg), value) else {
+        let Ok(_) = self.regs.insert(key(reg), earlier) else {
             unreachable!()
         };
     }
@@ -124,11 +124,11 @@ impl State {
         requires { IsSome (get self.old.memory address) }
         ensures { self.new ≡ record { regs = self.old.regs; memory = restored self.old.memory address before } }
     {
-        let Some(value) = before else {
+        let Some(earlier) = before else {
             self.memory.remove(&address);
             return;
         };
-        let Ok(_) = self.memory.insert(address, value) else {
+        let Ok(_) = self.memory.insert(address, earlier) else {
             unreachable!()
         };
     }

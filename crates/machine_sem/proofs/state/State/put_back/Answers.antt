@@ -38,7 +38,7 @@ pub returns : goal.returns
 unfolding restored with_regs back
 returns c =
     ap (with_regs (from_entries c.self.inside.memory.entries))
-    (one_set nat_list_cmp_total keys_differ c.self.inside.regs.entries c.insert.new.self.entries c.key-2.result c.in-Some.value c.in-Ok.ensures.updates.0
-    ∙ ap (λ k. insert (from_entries c.self.inside.regs.entries) k c.in-Some.value) c.key-2.ensures)
-    ∙ ap (back (reg_key c.args.reg) (Some c.in-Some.value)) c.self.view_is
+    (one_set nat_list_cmp_total keys_differ c.self.inside.regs.entries c.insert.new.self.entries c.key-2.result c.in-Some.earlier c.in-Ok.ensures.updates.0
+    ∙ ap (λ k. insert (from_entries c.self.inside.regs.entries) k c.in-Some.earlier) c.key-2.ensures)
+    ∙ ap (back (reg_key c.args.reg) (Some c.in-Some.earlier)) c.self.view_is
     ∙ ap (λ b. back (reg_key c.args.reg) b c.args.self.now) (sym c.in-Some.is)

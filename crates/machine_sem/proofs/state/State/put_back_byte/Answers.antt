@@ -35,6 +35,6 @@ pub returns : goal.returns
 unfolding restored with_memory back
 returns c =
     ap (with_memory (from_entries c.self.inside.regs.entries))
-    (one_set nat_cmp_total nat_cmp-IsAntisymmetric c.self.inside.memory.entries c.insert.new.self.entries c.args.address c.in-Some.value c.in-Ok.ensures.updates.0)
-    ∙ ap (back c.args.address (Some c.in-Some.value)) c.self.view_is
+    (one_set nat_cmp_total nat_cmp-IsAntisymmetric c.self.inside.memory.entries c.insert.new.self.entries c.args.address c.in-Some.earlier c.in-Ok.ensures.updates.0)
+    ∙ ap (back c.args.address (Some c.in-Some.earlier)) c.self.view_is
     ∙ ap (λ b. back c.args.address b c.args.self.now) (sym c.in-Some.is)
