@@ -1,5 +1,5 @@
 -- The one that a line spells, found among all of them, is the one that the steps read.
-use Rattle.std.proofs.Common.{◌≡◌, ◌∙◌, sym, ap, subst, ℕ, zero, suc, ◌+◌, ◌<◌, Bool, true, false, cond, List, [], ◌∷◌, ◌++◌, arith, refl, ◌⊎◌, inl, inr, map}
+use Rattle.std.proofs.Common.{◌≡◌, ◌∙◌, sym, ap, subst, ℕ, zero, suc, ◌<◌, Bool, true, false, cond, List, [], ◌∷◌, ◌++◌, arith, refl, ◌⊎◌, inl, inr, map}
 use Rattle.std.proofs.Math.Logic.{⊎_elim}
 use Rattle.std.proofs.lemmas.Bool.{cases_Bool}
 use Rattle.std.proofs.lemmas.Option.{same_Some}
@@ -10,7 +10,7 @@ use Rattle.std.specs.Str.{bytes_eq}
 use Rattle.sl_isa.specs.Steps.{parse}
 use Rattle.sl_isa.specs.ThreeForms.{Plain, IsPlain, body_line, below, all_plain, read_plain, read_instr, plain_instr, plain_of}
 use Rattle.sl_model.specs.declared.instruction.Instr.{Instr}
-use Rattle.sl_isa.proofs.Reading.{IsRead, parse_is, parse-printed}
+use Rattle.sl_isa.proofs.Reading.{parse_is, parse-printed}
 
 -- an element stands in a list
 abbrev pub Has : {A : Type 0} → A → List A → Type 0

@@ -1,7 +1,7 @@
 -- The steps read what is printed, and nothing else.
-use Rattle.std.proofs.Common.{◌≡◌, ◌≢◌, ◌∙◌, sym, ap, subst, ℕ, zero, suc, ◌+◌, ◌-◌, ◌*◌, ◌/◌, ◌%◌, ◌^◌, ◌<◌, ◌≤◌, Bool, true, false, cond, List, [], ◌∷◌, ◌++◌, length, take, drop, arith, refl, ◌⊎◌, inl, inr, append_assoc}
+use Rattle.std.proofs.Common.{◌≡◌, ◌∙◌, sym, ap, subst, ℕ, zero, suc, ◌+◌, ◌-◌, ◌*◌, ◌/◌, ◌%◌, ◌^◌, ◌<◌, ◌≤◌, Bool, true, false, cond, List, [], ◌∷◌, ◌++◌, length, take, drop, arith, refl, ◌⊎◌, inl, inr, append_assoc}
 use Rattle.std.proofs.Math.Seq.{drop-append_seam, take-append_seam}
-use Rattle.std.specs.Prelude.{Option, Some, None, codes, nat_lt, nat_le, nat_eq, option_and_then}
+use Rattle.std.specs.Prelude.{Option, Some, None, codes, nat_lt, nat_eq, option_and_then}
 use Rattle.std.specs.Char.{is_ascii_digit}
 use Rattle.std.specs.Fmt.{decimal}
 use Rattle.std.specs.List.{starts_with}
@@ -12,8 +12,8 @@ use Rattle.std.proofs.Math.Logic.{⊎_elim}
 use Rattle.std.proofs.lemmas.Fmt.{decimal_digit, decimal_step}
 use Rattle.std.proofs.lemmas.Option.{option_and_then_some, cond_some, same_Some}
 use Rattle.std.proofs.lemmas.Slice.Eq.{bytes_eq-Decides}
-use Rattle.std.proofs.lemmas.List.{take-append-drop, append-nil}
-use Rattle.sl_isa.specs.Steps.{Numbered, behind, form_or, form_at, two_digits, second_digit, number_at, register_at, ended, parse, ◌>>=◌}
+use Rattle.std.proofs.lemmas.List.{take-append-drop}
+use Rattle.sl_isa.specs.Steps.{Numbered, behind, form_or, form_at, two_digits, second_digit, number_at, register_at, ended, parse}
 use Rattle.sl_isa.specs.ThreeForms.{Plain, IsPlain, mnemonic, spelling, body_line}
 
 -- a word is what stands before the text behind it
@@ -155,7 +155,6 @@ second_digit-one : (first ones : ℕ) (rest : List ℕ) → ones < 10 → 10 ≤
     second_digit first ((48 + ones) ∷ rest) ≡ Some (record { number = 10 * first + ones; rest = rest })
 unfolding second_digit
 second_digit-one first ones rest h low high =
-    let n : ℕ = 10 * first + ones in
     let back : 48 + ones - 48 ≡ ones = omega arith in
     let not_low : nat_lt (10 * first + ones) 10 ≡ false = below_not _ _ low in
     let not_high : nat_lt 30 (10 * first + ones) ≡ false = below_not _ _ (omega arith) in

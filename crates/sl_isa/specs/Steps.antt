@@ -1,9 +1,11 @@
--- The steps by which a line of the three forms is read, each with the text that it leaves behind it.
-use Rattle.std.specs.Prelude.{ℕ, ◌+◌, ◌-◌, ◌*◌, Bool, nat_eq, nat_lt, List, [], ◌∷◌, codes, length, drop, Option, None, Some, option_and_then, if◌then◌else◌}
+-- The steps by which the code reads a line of the three forms, each with the text that it leaves behind it. What a line
+-- means is in ThreeForms: the steps are proved to find the same.
+use Rattle.std.specs.Prelude.{◌≡◌, ℕ, ◌+◌, ◌-◌, ◌*◌, nat_eq, nat_lt, List, [], ◌∷◌, codes, length, drop, Option, None, Some, option_and_then, if◌then◌else◌}
 use Rattle.std.specs.Char.{is_ascii_digit}
 use Rattle.std.specs.List.{starts_with}
 use Rattle.std.specs.Str.{bytes_eq}
 use Rattle.sl_isa.specs.ThreeForms.{Plain}
+use Rattle.sl_isa.specs.declared.three_forms.Numbered as Slice
 
 infixl 10 ◌>>=◌
 abbrev pub ◌>>=◌ : {A B : Type 0} → Option A → (A → Option B) → Option B
@@ -13,6 +15,11 @@ o >>= f = option_and_then f o
 pub record Numbered : Type 0 where
   pub number : ℕ
   pub rest : List ℕ
+
+-- what the code read is what a step gives
+abbrev pub Reads : Option Slice.Numbered → Option Numbered → Type 0
+Reads None step = step ≡ None
+Reads (Some r) step = step ≡ Some (record { number = r.number; rest = r.rest.now })
 
 -- the text behind a word, if it begins with the word
 unfoldable pub behind : List ℕ → List ℕ → Option (List ℕ)

@@ -1,18 +1,26 @@
 //! The first instructions: `add`, `sub` and `eor` of three x registers, read and printed.
 
 ghost use Rattle.std.specs.Prelude.{◌≡◌, ◌≢◌, ◌<◌, ℕ, List, Some, None, MatchOption, IfSome, IfNone, option_map};
-ghost use Rattle.sl_isa.specs.Steps.{behind, form_at, second_digit, number_at, register_at, parse};
+ghost use Rattle.sl_isa.specs.Steps.{Reads, behind, form_at, second_digit, number_at, register_at, parse};
 ghost use Rattle.sl_isa.specs.ThreeForms.{Plain, IsPlain, mnemonic, number_of, spelling, body_line, read_plain, read_instr, plain_instr, plain_of};
 
 use crate::{Bank, Instr, Reg};
 use std::fmt;
+
+// The numbers of the three forms.
+const ADD: u16 = 0;
+
+const SUB: u16 = 1;
+
+const EOR: u16 = 2;
 
 /// Reads a whole line, with its line feed, as one of the three instructions; `number` is its line number. There is
 /// none where the line isn't exactly one that is printed: eight spaces, the instruction, a line feed.
 #[tactic(auto, using(crate::proofs::Found::answer_value, crate::proofs::Found::answer_spelled, crate::proofs::Found::answer_other))]
 pub fn read_line(line: &str, number: u32) -> Option<Instr>
     ensures value { result ≡ read_instr number line.now }
-    ensures spelled { IfSome result (λ i. IsPlain (plain_of i) × (line.now ≡ body_line (plain_of i)) × (i ≡ plain_instr number (plain_of i))) }
+    ensures spelled { IfSome result (λ i.
+        IsPlain (plain_of i) × (line.now ≡ body_line (plain_of i)) × (i ≡ plain_instr number (plain_of i))) }
     ensures other { IfNone result ((p : Plain) → IsPlain p → line.now ≢ body_line p) }
 {
     read_bytes(line.as_bytes(), number)
@@ -48,35 +56,33 @@ fn behind<'a>(word: &[u8], text: &'a [u8]) -> Option<&'a [u8]>
 // The form whose mnemonic and blank a text begins with.
 #[tactic(auto, unfolding(crate::specs::Steps::form_at))]
 fn read_form(text: &[u8]) -> Option<Numbered>
-    ensures { MatchOption result (form_at text.now ≡ None) (λ r. form_at text.now ≡ Some (record { number = r.number; rest = r.rest.now })) }
+    ensures { Reads result (form_at text.now) }
 {
     if let Some(rest) = behind(b"add ", text) {
-        return Some(Numbered { number: 0, rest });
+        return Some(Numbered { number: ADD, rest });
     }
     if let Some(rest) = behind(b"sub ", text) {
-        return Some(Numbered { number: 1, rest });
+        return Some(Numbered { number: SUB, rest });
     }
     let rest = behind(b"eor ", text)?;
-    Some(Numbered { number: 2, rest })
+    Some(Numbered { number: EOR, rest })
 }
 
 // The number of a digit, and of a second one where there is one: no leading zero, and at most 30.
 #[tactic(auto, unfolding(crate::specs::Steps::second_digit))]
 fn read_second_digit(first: u16, text: &[u8]) -> Option<Numbered>
     requires { first < 10 }
-    ensures { MatchOption result (second_digit first text.now ≡ None) (λ r. second_digit first text.now ≡ Some (record { number = r.number; rest = r.rest.now })) }
+    ensures { Reads result (second_digit first text.now) }
 {
+    let one_digit = Numbered {
+        number: first,
+        rest: text,
+    };
     let Some((second, rest)) = text.split_first() else {
-        return Some(Numbered {
-            number: first,
-            rest: text,
-        });
+        return Some(one_digit);
     };
     if !second.is_ascii_digit() {
-        return Some(Numbered {
-            number: first,
-            rest: text,
-        });
+        return Some(one_digit);
     }
     let number = 10 * first + u16::from(*second - b'0');
     if number < 10 || 30 < number {
@@ -88,7 +94,7 @@ fn read_second_digit(first: u16, text: &[u8]) -> Option<Numbered>
 // A number of one or two digits.
 #[tactic(auto, unfolding(crate::specs::Steps::number_at))]
 fn read_number(text: &[u8]) -> Option<Numbered>
-    ensures { MatchOption result (number_at text.now ≡ None) (λ r. number_at text.now ≡ Some (record { number = r.number; rest = r.rest.now })) }
+    ensures { Reads result (number_at text.now) }
 {
     let (first, rest) = text.split_first()?;
     if !first.is_ascii_digit() {
@@ -100,7 +106,7 @@ fn read_number(text: &[u8]) -> Option<Numbered>
 // A register, `x0` to `x30`.
 #[tactic(auto, unfolding(crate::specs::Steps::register_at))]
 fn read_register(text: &[u8]) -> Option<Numbered>
-    ensures { MatchOption result (register_at text.now ≡ None) (λ r. register_at text.now ≡ Some (record { number = r.number; rest = r.rest.now })) }
+    ensures { Reads result (register_at text.now) }
 {
     read_number(behind(b"x", text)?)
 }
@@ -150,8 +156,8 @@ fn mnemonic(form: u16) -> &'static str
     ensures { result.now ≡ mnemonic form }
 {
     match form {
-        0 => "add",
-        1 => "sub",
+        ADD => "add",
+        SUB => "sub",
         _ => "eor",
     }
 }
@@ -165,6 +171,7 @@ fn number_of(register: Option<Reg>) -> u16
 
 /// How an instruction of the three forms is printed: the registers of its first output and its first two operands
 /// behind its mnemonic.
+#[derive(Clone, Copy)]
 pub struct Spelled<'a>(pub &'a Instr);
 
 #[tactic(auto, unfolding(crate::specs::ThreeForms::spelling))]
@@ -177,5 +184,89 @@ impl fmt::Display for Spelled<'_> {
         let left = number_of(self.0.ins[0]);
         let right = number_of(self.0.ins[1]);
         write!(f, "{word} x{to}, x{left}, x{right}")
+    }
+}
+
+#[cfg(test)]
+mod tests {
+    use super::*;
+    use std::alloc::AllocError;
+
+    // The form and the three registers of an instruction.
+    fn parts(instr: Instr) -> (u16, u16, u16, u16) {
+        (
+            instr.form,
+            number_of(instr.outs[0]),
+            number_of(instr.ins[0]),
+            number_of(instr.ins[1]),
+        )
+    }
+
+    #[test]
+    fn lines_are_read_as_they_are_printed(rt: HostRuntime) -> Result<(), AllocError> {
+        let good = [
+            ("        add x2, x1, x0\n", "add x2, x1, x0", (0, 2, 1, 0)),
+            (
+                "        sub x30, x9, x10\n",
+                "sub x30, x9, x10",
+                (1, 30, 9, 10),
+            ),
+            (
+                "        eor x0, x30, x29\n",
+                "eor x0, x30, x29",
+                (2, 0, 30, 29),
+            ),
+        ];
+        for (line, printed, wanted) in good {
+            let instr = read_line(line, 7);
+            assert_eq!(rt; instr.map(parts), Some(wanted), "{line}");
+            let Some(instr) = instr else { continue };
+            assert_eq!(rt; instr.line, 7, "{line}");
+            assert_eq!(rt;
+                format!(in rt.alloc(); "{}", Spelled(&instr))?.as_str(),
+                printed
+            );
+        }
+        Ok(())
+    }
+
+    #[test]
+    fn other_spellings_are_not_read(rt: HostRuntime) {
+        let bad = [
+            "",
+            "\n",
+            "        \n",
+            "add x2, x1, x0\n",
+            "       add x2, x1, x0\n",
+            "         add x2, x1, x0\n",
+            "\tadd x2, x1, x0\n",
+            "        add\tx2, x1, x0\n",
+            "        add  x2, x1, x0\n",
+            "        ADD x2, x1, x0\n",
+            "        adds x2, x1, x0\n",
+            "        and x2, x1, x0\n",
+            "        add X2, x1, x0\n",
+            "        add w2, x1, x0\n",
+            "        add x2,x1, x0\n",
+            "        add x2, x1 , x0\n",
+            "        add x2, x1\n",
+            "        add x2, x1, x0, x3\n",
+            "        add x2, x1, #0\n",
+            "        add x2, x1, x\n",
+            "        add x01, x1, x0\n",
+            "        add x2, x00, x0\n",
+            "        add x2, x1, x31\n",
+            "        add x2, x100, x0\n",
+            "        add x2, x1, x300\n",
+            "        add x2, x1, xzr\n",
+            "        add x2, x1, x0",
+            "        add x2, x1, x0 \n",
+            "        add x2, x1, x0\r\n",
+            "        add x2, x1, x0\n\n",
+            "        add x2, x1, x0 // sum\n",
+        ];
+        for line in bad {
+            assert_eq!(rt; read_line(line, 1).map(parts), None, "{line}");
+        }
     }
 }
