@@ -1,1 +1,5 @@
+pub mod Example
 pub mod Faithful
+pub mod Outcome
+pub mod WellPosed
+pub mod Written

@@ -1,0 +1,28 @@
+-- A full legal schedule carries out its problem.
+use Rattle.std.proofs.Common.{List, [], ap, ◌∙◌}
+use Rattle.sl_model.specs.declared.schedule.Choice.{Choice}
+use Rattle.sl_model.specs.State.{State}
+use Rattle.sl_model.specs.Isa.{Isa}
+use Rattle.sl_model.specs.Body.{Body, flow_of, source_value}
+use Rattle.sl_model.specs.Lawful.{IsLawful}
+use Rattle.sl_model.specs.Legal.{Problem, IsFullLegal, body_of}
+use Rattle.sl_model.specs.Program.{TagsHoldOf}
+use Rattle.renamer.specs.Faithful.{Carries}
+use Rattle.renamer.specs.Outcome.{CarriesProblem}
+use Rattle.renamer.specs.WellPosed.{IsWellPosed}
+use Rattle.renamer.proofs.OrderKept.{applied-kept}
+use Rattle.renamer.proofs.OrderRun.{order-carries}
+use Rattle.renamer.proofs.LegalityFaithful.{legal-faithful}
+use Rattle.renamer.proofs.LegalityFinals.{finals-hold}
+
+-- A full legal schedule carries out its problem.
+pub legal-carries : (isa : Isa) (problem : Problem) (schedule : List Choice) (s : State) → IsLawful isa → IsWellPosed isa problem → IsFullLegal isa problem schedule → TagsHoldOf isa.space (flow_of isa (body_of problem) s).touches → CarriesProblem isa problem schedule s
+legal-carries isa problem schedule s lawful posed legal tags =
+    let body : Body = body_of problem in
+    let carried : Carries isa body schedule s = order-carries isa body s lawful posed.sound tags schedule (legal-faithful isa problem [] schedule lawful posed.sound legal.legal) legal.full in
+    record {
+      finals = λ k r value final. carried.registers r ∙ ap (source_value s (flow_of isa body s).values) (finals-hold isa problem schedule posed.sound posed.made legal k r value final);
+      bytes = carried.bytes;
+      others = λ r untouched. applied-kept isa body [] schedule s r untouched;
+      access_counts = carried.access_counts;
+    }
