@@ -181,7 +181,7 @@ few_lawful = record {
 -- A counter is one of the x registers.
 counter_suits : (number : ℕ) → nat_lt number 31 ≡ true → suits_set (record { bank = General; symbolic = false; number = number }, x_registers) ≡ true
 unfolding set_has
-counter_suits number h = ap (λ b. b == 1) (bit_at_ones 31 number (ltb-true _ _ h))
+counter_suits number h = both_hold _ _ (ap (λ b. b == 1) (bit_at_ones 31 number (ltb-true _ _ h))) (wider number 31 32 (ltb-true _ _ h) (lit≤ tt))
 
 flags_suit : suits_set (flags_register, the_flags) && true ≡ true
 unfolding set_has
