@@ -3,11 +3,10 @@ use Rattle.std.proofs.Common.{◌≡◌, ℕ, zero, suc, ◌+◌, ◌%◌, ◌^�
 use Rattle.std.proofs.lemmas.Bool.{true≢false, ltb-true, lt-ltb}
 use Rattle.std.proofs.lemmas.Nat.{mod_below}
 use Rattle.std.specs.Prelude.{if◌then◌else◌, nat_lt}
-use Rattle.std.specs.List.{list_all, zip}
 use Rattle.std.specs.Ordering.{eq_by_cmp, nat_cmp}
 use Rattle.std.specs.Cmp.{Equal-is, nat_cmp_total}
 use Rattle.std.specs.Cmp.Lexicographic.{slice_cmp, nat_list_cmp_total}
-use Rattle.std.specs.FinMap.{FinMap, get, insert, get-insert, nat_cmp-IsAntisymmetric}
+use Rattle.std.specs.FinMap.{get, get-empty, get-insert, nat_cmp-IsAntisymmetric}
 use Rattle.sl_model.specs.declared.register.Bank.{Bank}
 use Rattle.sl_model.specs.declared.register.Bank.TheVariants.{General, Vector, Flags, Stack}
 use Rattle.sl_model.specs.declared.register.Reg.{Reg}
@@ -19,10 +18,11 @@ use Rattle.sl_model.specs.Source.{operands, outputs}
 use Rattle.sl_model.specs.State.{State, reg_key, is_zero, read, write, write_all, byte, put, load, store}
 use Rattle.sl_model.specs.Machine.{limit_of}
 use Rattle.sl_model.specs.Isa.{Isa, op_of}
-use Rattle.sl_model.specs.Exec.{is_load, is_store, address_of, loaded_by, values_of, memory_after, operand_values, exec, run}
+use Rattle.sl_model.specs.Exec.{is_load, is_store, address_of, loaded_by, values_of, memory_after, operand_values, exec}
 use Rattle.sl_model.specs.Lawful.{IsValid, IsLawful, fit, are_bytes}
 use Rattle.sl_isa.specs.Arch.{AreOperands}
 use Rattle.machine_sem.specs.Fits.{Fits}
+use Rattle.machine_sem.specs.StateCode.{new_state}
 use Rattle.machine_sem.proofs.Maps.{keys_differ}
 use Rattle.machine_sem.proofs.Stepping.{length-loaded_by}
 
@@ -74,6 +74,10 @@ value_fits true same v old limit positive small fits = positive
 value_fits false true v old limit positive small fits = small refl
 value_fits false false v old limit positive small fits = fits
 
+none_fits : (zeroed : Bool) (limit : ℕ) → 0 < limit → (if zeroed then 0 else 0) < limit
+none_fits true limit positive = positive
+none_fits false limit positive = positive
+
 byte_fits : (same : Bool) (b : ℕ) (old : Option ℕ) → b < 256 → unwrap_or old 0 < 256 → unwrap_or (cond same (Some b) old) 0 < 256
 byte_fits true b old small fits = small
 byte_fits false b old small fits = fits
@@ -103,12 +107,21 @@ module _ (isa : Isa) (lawful : IsLawful isa) where
   pub operands_fit : (i : Instr) (s : State) → Fits isa s → AreOperands isa i (operand_values i s)
   operands_fit i s fits = record { count = length-map (read s) (operands i); fitting = fit_read s fits (operands i) }
 
-  write_fits : (r : Reg) (v : ℕ) (s : State) → v < isa.limit r.bank → Fits isa s → Fits isa (write r v s)
+  -- the new state
+  pub new_fits : Fits isa new_state
+  unfolding read byte
+  new_fits = record {
+    values = λ q. subst (λ o. (if is_zero q then 0 else unwrap_or o 0) < isa.limit q.bank) (sym (get-empty (slice_cmp nat_cmp) (reg_key q))) (none_fits (is_zero q) _ (positive q.bank));
+    bytes = λ a. subst (λ o. unwrap_or o 0 < 256) (sym (get-empty nat_cmp a)) (lit< tt);
+    addresses = λ a far. get-empty nat_cmp a;
+  }
+
+  pub write_fits : (r : Reg) (v : ℕ) (s : State) → v < isa.limit r.bank → Fits isa s → Fits isa (write r v s)
   unfolding write read
   write_fits r v s small fits = record {
     values = λ q. subst (λ o. (if is_zero q then 0 else unwrap_or o 0) < isa.limit q.bank) (sym (get-insert nat_list_cmp_total s.regs (reg_key r) v (reg_key q)))
         (value_fits (is_zero q) (eq_by_cmp (slice_cmp nat_cmp) (reg_key q) (reg_key r)) v (get s.regs (reg_key q)) (isa.limit q.bank) (positive q.bank)
-            (λ same. subst (λ bank. v < isa.limit bank) (sym (same_bank q r same)) small) (fits.values q));
+        (λ same. subst (λ bank. v < isa.limit bank) (sym (same_bank q r same)) small) (fits.values q));
     bytes = fits.bytes;
     addresses = fits.addresses;
   }
@@ -121,7 +134,7 @@ module _ (isa : Isa) (lawful : IsLawful isa) where
       let parts = both (nat_lt v (isa.limit r.bank)) _ h in
       write_all_fits regs values (write r v s) parts.1 (write_fits r v s (ltb-true _ _ parts.0) fits)
 
-  put_fits : (address b : ℕ) (s : State) → address < isa.space → b < 256 → Fits isa s → Fits isa (record { regs = s.regs; memory = put address b s.memory })
+  pub put_fits : (address b : ℕ) (s : State) → address < isa.space → b < 256 → Fits isa s → Fits isa (record { regs = s.regs; memory = put address b s.memory })
   unfolding put byte read
   put_fits address b s within small fits = record {
     values = fits.values;
@@ -137,7 +150,7 @@ module _ (isa : Isa) (lawful : IsLawful isa) where
       let parts = both (nat_lt b 256) _ h in
       let within : address % isa.space < isa.space = mod_below address isa.space (some_space isa.space lawful.space) in
       store_fits (address + 1) bytes (record { regs = s.regs; memory = put (address % isa.space) b s.memory }) parts.1
-          (put_fits (address % isa.space) b s within (ltb-true _ _ parts.0) fits)
+      (put_fits (address % isa.space) b s within (ltb-true _ _ parts.0) fits)
 
   memory_fits : (i : Instr) → IsValid isa i → (s : State) → Fits isa s → Fits isa (record { regs = s.regs; memory = memory_after isa i (operand_values i s) s.memory })
   unfolding memory_after
@@ -168,5 +181,5 @@ module _ (isa : Isa) (lawful : IsLawful isa) where
       let ins = operand_values i s in
       let are = operands_fit i s fits in
       write_all_fits (outputs i) _ _
-          (lawful.values_fit i ins (loaded_by isa i ins s.memory) valid are.count (length-loaded_by isa lawful i valid ins s.memory) are.fitting (loaded_fits i ins s fits))
-          (memory_fits i valid s fits)
+      (lawful.values_fit i ins (loaded_by isa i ins s.memory) valid are.count (length-loaded_by isa lawful i valid ins s.memory) are.fitting (loaded_fits i ins s fits))
+      (memory_fits i valid s fits)

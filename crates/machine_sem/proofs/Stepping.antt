@@ -1,6 +1,5 @@
 -- What a step does is what `exec` says.
-use Rattle.std.proofs.Common.{◌≡◌, ℕ, zero, suc, ◌+◌, ◌≤◌, ◌<◌, Bool, true, false, cond, not, List, [], ◌∷◌, length, take, map, Option, Some, None, IfSome, Result, Ok, Err, OnOk, OnErr, slice_index_or, add-one, refl, sym, ap, subst, ◌∙◌, arith}
-use Rattle.std.proofs.lemmas.Bool.{true≢false}
+use Rattle.std.proofs.Common.{◌≡◌, ℕ, zero, suc, ◌+◌, ◌≤◌, ◌<◌, Bool, true, false, not, List, [], ◌∷◌, length, take, Option, Some, None, IfSome, Result, Ok, Err, OnOk, OnErr, slice_index_or, add-one, refl, sym, ap, subst, ◌∙◌, arith}
 use Rattle.std.specs.Prelude.{if◌then◌else◌}
 use Rattle.std.specs.Ordering.{nat_cmp}
 use Rattle.std.specs.List.{filter_map}
@@ -9,7 +8,7 @@ use Rattle.sl_model.specs.declared.register.Reg.{Reg}
 use Rattle.sl_model.specs.declared.instruction.Access.{Access}
 use Rattle.sl_model.specs.declared.instruction.ArchName.{ArchName}
 use Rattle.sl_model.specs.declared.instruction.Instr.{Instr}
-use Rattle.sl_model.specs.Source.{operands, outputs, padded}
+use Rattle.sl_model.specs.Source.{outputs, padded}
 use Rattle.sl_model.specs.State.{State, write, write_all, load, store}
 use Rattle.sl_model.specs.Machine.{space_of}
 use Rattle.sl_model.specs.Isa.{Isa, op_of}
@@ -96,9 +95,9 @@ module _ (isa : Isa) (lawful : IsLawful isa) (i : Instr) (valid : IsValid isa i)
   stored_is ins m are =
       ap (λ space. stored_at space (access_of isa i ins) (padded_values 32 (stored_by isa i ins)) m) (sym lawful.spaces)
       ∙ stored_cases (has_access (isa.info i.form)) (isa.info i.form).store isa.space (address_of isa i ins) (isa.info i.form).size (isa.stored (op_of i) ins) m (λ is.
-          let count : length (isa.stored (op_of i) ins) ≡ (isa.info i.form).size = lawful.stored_count i ins valid is are.count in
-          let few : length (isa.stored (op_of i) ins) ≤ 32 = subst (λ n. n ≤ 32) (sym count) (lawful.sizes i.form) in
-          ap (λ n. take n (padded_values 32 (isa.stored (op_of i) ins))) (sym count) ∙ take_padded 32 (isa.stored (op_of i) ins) few)
+      let count : length (isa.stored (op_of i) ins) ≡ (isa.info i.form).size = lawful.stored_count i ins valid is are.count in
+      let few : length (isa.stored (op_of i) ins) ≤ 32 = subst (λ n. n ≤ 32) (sym count) (lawful.sizes i.form) in
+      ap (λ n. take n (padded_values 32 (isa.stored (op_of i) ins))) (sym count) ∙ take_padded 32 (isa.stored (op_of i) ins) few)
 
   outputs_few : length (outputs i) ≤ 3
   outputs_few = subst (λ n. length (outputs i) ≤ n) (ap length valid.outs_shape ∙ length_padded 3 (outputs i)) (length_chosen i.outs)
@@ -138,13 +137,13 @@ module _ (isa : Isa) (lawful : IsLawful isa) (i : Instr) (valid : IsValid isa i)
   step_from s name ins loaded regs bytes access are named read_are is from gives stores =
       let given : List ℕ → List ℕ → List ℕ = λ xs bs. padded_values 3 (isa.values (op_of i) xs bs) in
       let values : regs ≡ given (operand_values i s) (loaded_by isa i (operand_values i s) s.memory) =
-          gives ∙ ap (given ins) (loaded_from s name ins loaded access named is from) ∙ ap (λ xs. given xs (loaded_by isa i xs s.memory)) read_are in
+      gives ∙ ap (given ins) (loaded_from s name ins loaded access named is from) ∙ ap (λ xs. given xs (loaded_by isa i xs s.memory)) read_are in
       let memory : stored_at (space_of name) access bytes s.memory ≡ memory_after isa i (operand_values i s) s.memory =
-          ap (λ b. stored_at (space_of name) access b s.memory) stores
-          ∙ ap (λ n. stored_at (space_of n) access (padded_values 32 (stored_by isa i ins)) s.memory) named
-          ∙ ap (λ a. stored_at (space_of isa.name) a (padded_values 32 (stored_by isa i ins)) s.memory) is
-          ∙ ap (λ xs. stored_at (space_of isa.name) (access_of isa i xs) (padded_values 32 (stored_by isa i xs)) s.memory) read_are
-          ∙ stored_is (operand_values i s) s.memory are in
+      ap (λ b. stored_at (space_of name) access b s.memory) stores
+      ∙ ap (λ n. stored_at (space_of n) access (padded_values 32 (stored_by isa i ins)) s.memory) named
+      ∙ ap (λ a. stored_at (space_of isa.name) a (padded_values 32 (stored_by isa i ins)) s.memory) is
+      ∙ ap (λ xs. stored_at (space_of isa.name) (access_of isa i xs) (padded_values 32 (stored_by isa i xs)) s.memory) read_are
+      ∙ stored_is (operand_values i s) s.memory are in
       let state_with : FinMap nat_cmp ℕ → State = λ m. record { regs = s.regs; memory = m } in
       ap (λ r. write_all (outputs i) r (state_with (stored_at (space_of name) access bytes s.memory))) values
       ∙ ap (λ m. write_all (outputs i) (given (operand_values i s) (loaded_by isa i (operand_values i s) s.memory)) (state_with m)) memory

@@ -14,7 +14,7 @@ unfolding load
 load_wrapped s m a zero = refl
 load_wrapped s m a (suc n) =
     let behind : load s m (a % s + 1) n ≡ load s m (a + 1) n =
-        sym (load_wrapped s m (a % s + 1) n) ∙ ap (λ b. load s m b n) (next_wrapped s a) ∙ load_wrapped s m (a + 1) n in
+    sym (load_wrapped s m (a % s + 1) n) ∙ ap (λ b. load s m b n) (next_wrapped s a) ∙ load_wrapped s m (a + 1) n in
     ap (λ b. byte m b ∷ load s m (a % s + 1) n) (mod-mod a s) ∙ ap (λ rest. byte m (a % s) ∷ rest) behind
 
 pub store_wrapped : (s a : ℕ) (bytes : List ℕ) (m : FinMap nat_cmp ℕ) → store s (a % s) bytes m ≡ store s a bytes m

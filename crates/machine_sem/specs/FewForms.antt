@@ -1,6 +1,7 @@
 -- A small instruction set of x registers, with a counter's steps, a load and a store: what the laws of instruction
 -- sets ask for can be met. Source: DDI 0487, A64 base instructions.
-use Rattle.std.specs.Prelude.{ℕ, ℤ, Bool, true, false, pos, ◌+◌, ◌-◌, ◌*◌, ◌/◌, ◌%◌, ◌^◌, ◌==◌, ◌&&◌, nat_lt, int_le, unsigned_abs, bit_xor, List, [], ◌∷◌, slice_index, slice_index_or, Option, None, Some, if◌then◌else◌}
+use Rattle.std.specs.Prelude.{ℕ, ℤ, true, false, pos, ◌+◌, ◌-◌, ◌*◌, ◌/◌, ◌%◌, ◌^◌, ◌==◌, ◌&&◌, nat_lt, int_le, unsigned_abs, bit_xor, List, [], ◌∷◌, slice_index, slice_index_or, Option, None, Some, if◌then◌else◌}
+use Rattle.sl_model.specs.declared.register.Bank.TheVariants.{General}
 use Rattle.sl_model.specs.declared.register.Reg.{Reg}
 use Rattle.sl_model.specs.declared.register.RegSet.{RegSet}
 use Rattle.sl_model.specs.declared.instruction.ArchName.TheVariants.{Arm64}
@@ -8,7 +9,7 @@ use Rattle.sl_model.specs.declared.instruction.Access.{Access}
 use Rattle.sl_model.specs.declared.instruction.FormInfo.{FormInfo}
 use Rattle.sl_model.specs.declared.instruction.Instr.{Instr}
 use Rattle.sl_model.specs.Machine.{space_of, limit_of}
-use Rattle.sl_model.specs.Isa.{Isa, Op}
+use Rattle.sl_model.specs.Isa.{Isa}
 use Rattle.sl_isa.specs.declared.arch.CounterOp.{CounterOp}
 use Rattle.sl_isa.specs.declared.arch.CounterOp.TheVariants.{Sub, Subs, Lsr}
 use Rattle.sl_isa.specs.Arch.{flags_register}
@@ -143,4 +144,35 @@ few_step op counter line = record {
   early = false;
   late = false;
   line = line;
+}
+
+-- the registers of an example of a form: it reads x1, and x2 where it has a second operand, and writes x3; the store
+-- moves x2 on
+abbrev pub x_register : ℕ → Option Reg
+x_register number = Some (record { bank = General; symbolic = false; number = number })
+
+abbrev pub example_ins : Form → List (Option Reg)
+example_ins AddRegisters = x_register 1 ∷ x_register 2 ∷ None ∷ None ∷ []
+example_ins SubRegisters = x_register 1 ∷ x_register 2 ∷ None ∷ None ∷ []
+example_ins EorRegisters = x_register 1 ∷ x_register 2 ∷ None ∷ None ∷ []
+example_ins StoreHalf = x_register 1 ∷ x_register 2 ∷ None ∷ None ∷ []
+example_ins _ = x_register 1 ∷ None ∷ None ∷ None ∷ []
+
+abbrev pub example_outs : Form → List (Option Reg)
+example_outs SubsNumber = x_register 3 ∷ Some flags_register ∷ None ∷ []
+example_outs StoreHalf = x_register 2 ∷ None ∷ None ∷ []
+example_outs _ = x_register 3 ∷ None ∷ None ∷ []
+
+-- an example of each form
+abbrev pub example : ℕ → ℕ → Instr
+example form number = record {
+  form = form;
+  wide = false;
+  imms = pos number ∷ pos 0 ∷ pos 0 ∷ [];
+  ins = example_ins (form_of form);
+  outs = example_outs (form_of form);
+  tag = None;
+  early = false;
+  late = false;
+  line = 1;
 }

@@ -1,33 +1,32 @@
 -- The small instruction set is lawful.
-use Rattle.std.proofs.Common.{◌≡◌, ℕ, ℤ, pos, zero, suc, ◌+◌, ◌-◌, ◌*◌, ◌/◌, ◌%◌, ◌^◌, ◌<◌, ◌≤◌, ◌≤ℤ◌, ◌+ℤ◌, Bool, true, false, not, cond, ◌&&◌, List, [], ◌∷◌, length, slice_index, Option, None, Some, refl, sym, ap, subst, ◌∙◌, arith, lit<, lit≤, rules, add-zero}
+use Rattle.std.proofs.Common.{◌≡◌, ℕ, pos, zero, suc, ◌+◌, ◌-◌, ◌*◌, ◌/◌, ◌%◌, ◌^◌, ◌<◌, ◌≤◌, ◌≤ℤ◌, ◌+ℤ◌, Bool, true, false, ◌&&◌, List, [], ◌∷◌, length, slice_index, Option, None, Some, refl, sym, ap, subst, ◌∙◌, arith, lit<, lit≤, rules, add-zero}
 use Rattle.std.proofs.lemmas.Bool.{true≢false, ltb-true, lt-ltb, le-leb}
 use Rattle.std.proofs.lemmas.Nat.{mod_below}
-use Rattle.std.specs.Prelude.{if◌then◌else◌, nat_lt, int_le, bit_xor, ◌==◌}
+use Rattle.std.specs.Prelude.{if◌then◌else◌, nat_lt, bit_xor, ◌==◌}
 use Rattle.std.proofs.lemmas.Nat.{xor_mod}
 use Rattle.std.proofs.lemmas.Nat.Bits.{bit_at_ones}
 use Rattle.std.proofs.Math.Nat.{div-le_self, mod-eq_of_lt, mod-add-mod}
-use Rattle.std.specs.List.{list_all, list_any, zip}
+use Rattle.std.specs.List.{list_all, list_any, filter_map, zip}
 use Rattle.sl_model.specs.declared.register.Bank.{Bank}
 use Rattle.sl_model.specs.declared.register.Bank.TheVariants.{General, Vector, Flags, Stack}
 use Rattle.sl_model.specs.declared.register.Reg.{Reg}
 use Rattle.sl_model.specs.declared.register.RegSet.{RegSet}
-use Rattle.sl_model.specs.declared.instruction.Access.{Access}
 use Rattle.sl_model.specs.declared.instruction.Instr.{Instr}
 use Rattle.sl_model.specs.declared.instruction.ArchName.TheVariants.{Arm64}
 use Rattle.sl_model.specs.RegSets.{set_has, set_count}
 use Rattle.sl_model.specs.Register.{same_reg}
 use Rattle.sl_model.specs.Body.{all_differ}
-use Rattle.sl_model.specs.Source.{operands, outputs, place_from}
+use Rattle.sl_model.specs.Source.{outputs, padded, place_from}
 use Rattle.sl_model.specs.Machine.{limit_of, can_count}
-use Rattle.sl_model.specs.Isa.{Isa, Op, op_of, address_at}
+use Rattle.sl_model.specs.Isa.{Op, address_at}
 use Rattle.sl_model.specs.Exec.{has_access, is_store, base_value}
-use Rattle.sl_model.specs.Lawful.{IsValid, IsLawful, IsBelow, fit, are_bytes, load_size, suits_set, zero_register}
+use Rattle.sl_model.specs.Lawful.{IsValid, IsLawful, IsBelow, fit, are_bytes, suits_set, is_tied_to, zero_register}
 use Rattle.sl_isa.specs.declared.arch.CounterOp.{CounterOp}
 use Rattle.sl_isa.specs.declared.arch.CounterOp.TheVariants.{Sub, Subs, Lsr}
 use Rattle.sl_isa.specs.Arch.{IsStep, Steps, flags_register, access_of, stored_by}
 use Rattle.machine_sem.specs.declared.few_forms.Form.{Form}
 use Rattle.machine_sem.specs.declared.few_forms.Form.TheVariants.{AddRegisters, SubRegisters, EorRegisters, SubNumber, SubsNumber, LsrNumber, LoadHalf, StoreHalf}
-use Rattle.machine_sem.specs.FewForms.{few_isa, few_step, form_of, info_of, offset_by, values_by, stored_by_form, number_in, operand_in, less, access_by, flags_of, x_registers, the_flags}
+use Rattle.machine_sem.specs.FewForms.{few_isa, few_step, form_of, info_of, offset_by, values_by, stored_by_form, number_in, operand_in, less, access_by, example, example_ins, example_outs, flags_of, x_registers, the_flags}
 
 both : (a b : Bool) → (a && b) ≡ true → (a ≡ true) × (b ≡ true)
 both true b h = (refl, h)
@@ -182,7 +181,7 @@ few_lawful = record {
 -- A counter is one of the x registers.
 counter_suits : (number : ℕ) → nat_lt number 31 ≡ true → suits_set (record { bank = General; symbolic = false; number = number }, x_registers) ≡ true
 unfolding set_has
-counter_suits number h = ap (λ b. b == 1) (bit_at_ones 31 number (ltb-true _ _ h))
+counter_suits number h = both_hold _ _ (ap (λ b. b == 1) (bit_at_ones 31 number (ltb-true _ _ h))) (wider number 31 32 (ltb-true _ _ h) (lit≤ tt))
 
 flags_suit : suits_set (flags_register, the_flags) && true ≡ true
 unfolding set_has
@@ -283,3 +282,43 @@ stored_of_form ins = each (λ form. stored_by_form form ins ≡ (if is_store (in
 pub stored_is : (i : Instr) (ins : List ℕ) → stored_by_form (form_of i.form) ins ≡ stored_by few_isa i ins
 unfolding few_isa stored_by
 stored_is i ins = stored_of_form ins (form_of i.form)
+
+-- Registers are those that a form takes.
+record Suits (form : Form) (ins outs : List (Option Reg)) : Type 0 where
+  ins_shape : ins ≡ padded 4 (filter_map (λ r. r) ins)
+  outs_shape : outs ≡ padded 3 (filter_map (λ r. r) outs)
+  operand_count : length (filter_map (λ r. r) ins) ≡ set_count (info_of form).in_sets
+  output_count : length (filter_map (λ r. r) outs) ≡ set_count (info_of form).out_sets
+  operand_classes : list_all suits_set (zip (filter_map (λ r. r) ins) (info_of form).in_sets) ≡ true
+  output_classes : list_all suits_set (zip (filter_map (λ r. r) outs) (info_of form).out_sets) ≡ true
+  distinct : all_differ (filter_map (λ r. r) outs) ≡ true
+  tied : list_all (is_tied_to (filter_map (λ r. r) ins)) (zip (filter_map (λ r. r) outs) (info_of form).tied) ≡ true
+
+example_suits : (form : Form) → Suits form (example_ins form) (example_outs form)
+unfolding set_has set_count all_differ place_from same_reg
+example_suits = each (λ form. Suits form (example_ins form) (example_outs form))
+    (record { ins_shape = refl; outs_shape = refl; operand_count = refl; output_count = refl; operand_classes = refl; output_classes = refl; distinct = refl; tied = refl })
+    (record { ins_shape = refl; outs_shape = refl; operand_count = refl; output_count = refl; operand_classes = refl; output_classes = refl; distinct = refl; tied = refl })
+    (record { ins_shape = refl; outs_shape = refl; operand_count = refl; output_count = refl; operand_classes = refl; output_classes = refl; distinct = refl; tied = refl })
+    (record { ins_shape = refl; outs_shape = refl; operand_count = refl; output_count = refl; operand_classes = refl; output_classes = refl; distinct = refl; tied = refl })
+    (record { ins_shape = refl; outs_shape = refl; operand_count = refl; output_count = refl; operand_classes = refl; output_classes = refl; distinct = refl; tied = refl })
+    (record { ins_shape = refl; outs_shape = refl; operand_count = refl; output_count = refl; operand_classes = refl; output_classes = refl; distinct = refl; tied = refl })
+    (record { ins_shape = refl; outs_shape = refl; operand_count = refl; output_count = refl; operand_classes = refl; output_classes = refl; distinct = refl; tied = refl })
+    (record { ins_shape = refl; outs_shape = refl; operand_count = refl; output_count = refl; operand_classes = refl; output_classes = refl; distinct = refl; tied = refl })
+
+-- each example is an instruction of the set
+pub example_valid : (form number : ℕ) → form < 8 → number < 64 → IsValid few_isa (example form number)
+unfolding few_isa
+example_valid form number known small =
+    let suits = example_suits (form_of form) in
+    record {
+      op = both_hold _ _ (lt-ltb form 8 known) (both_hold _ _ (le-leb 0 number (omega arith)) (lt-ltb number 64 small));
+      ins_shape = suits.ins_shape;
+      outs_shape = suits.outs_shape;
+      operand_count = suits.operand_count;
+      output_count = suits.output_count;
+      operand_classes = suits.operand_classes;
+      output_classes = suits.output_classes;
+      distinct = suits.distinct;
+      tied = suits.tied;
+    }

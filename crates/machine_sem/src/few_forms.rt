@@ -1,8 +1,8 @@
 //! A small instruction set, which shows that what the laws of architectures ask for can be met.
 ghost use Rattle.std.specs.Prelude.{◌≡◌, ◌%◌, ◌^◌, ◌<◌, ◌∷◌, [], pos, slice_index};
 ghost use Rattle.sl_isa.specs.Arch.{padded_values};
-ghost use Rattle.machine_sem.specs.FewForms.{few_isa, few_step, form_of, info_of, less, flags_of, values_by, stored_by_form, step_form, step_number, step_flags, offset_by, access_by, operand_in, number_in, plain_info};
-
+ghost use Rattle.sl_model.specs.Lawful.{IsValid};
+ghost use Rattle.machine_sem.specs.FewForms.{few_isa, few_step, form_of, info_of, less, flags_of, values_by, stored_by_form, step_form, step_number, step_flags, offset_by, access_by, x_register, example, example_ins, example_outs, operand_in, number_in, plain_info};
 ghost use Rattle.machine_sem.specs.FewLaws.{few_lawful, few_steps};
 
 use sl_isa::{Access, Arch, ArchName, Bank, CounterOp, FormInfo, Instr, Outs, Reg, RegSet};
@@ -69,7 +69,10 @@ fn info_of(form: Form) -> FormInfo
     };
     let nothing = RegSet { bits: 0 };
     match form {
-        Form::AddRegisters | Form::SubRegisters | Form::EorRegisters => plain_info(x_registers, nothing),
+        Form::AddRegisters | Form::SubRegisters | Form::EorRegisters => plain_info(
+            x_registers,
+            nothing,
+        ),
         Form::SubNumber | Form::LsrNumber => plain_info(nothing, nothing),
         Form::SubsNumber => plain_info(nothing, RegSet { bits: 1 << 64 }),
         Form::LoadHalf => FormInfo {
@@ -281,7 +284,11 @@ fn exec_form(form: Form, number: u64, ins: &[u128], loaded: &[u8]) -> Outs
         Form::EorRegisters => one_value(left ^ right),
         Form::SubNumber => one_value(less(left, number)),
         Form::SubsNumber => Outs {
-            regs: [u128::from(less(left, number)), u128::from(flags_of(left, number)), 0],
+            regs: [
+                u128::from(less(left, number)),
+                u128::from(flags_of(left, number)),
+                0,
+            ],
             bytes: [0; 32],
         },
         Form::LsrNumber => one_value(left >> number),
@@ -295,5 +302,62 @@ fn exec_form(form: Form, number: u64, ins: &[u128], loaded: &[u8]) -> Outs
                 bytes,
             }
         }
+    }
+}
+
+// An example of each form: it reads x1, and x2 where it has a second operand, and writes x3; the store moves x2 on.
+#[tactic(auto, using(crate::specs::FewLaws::example_valid))]
+pub(crate) fn example(form: u16, number: u8) -> Instr
+    requires known { form < 8 }
+    requires small { number < 64 }
+    ensures { IsValid few_isa result }
+{
+    example_of(form, number)
+}
+
+fn example_of(form: u16, number: u8) -> Instr
+    ensures { result ≡ example form number }
+{
+    Instr {
+        form,
+        wide: false,
+        imms: [step_number(CounterOp::Sub { number }), 0, 0],
+        ins: example_ins(form_of(form)),
+        outs: example_outs(form_of(form)),
+        tag: None,
+        early: false,
+        late: false,
+        line: 1,
+    }
+}
+
+fn x_register(number: u16) -> Option<Reg>
+    ensures { result ≡ x_register number }
+{
+    Some(Reg {
+        bank: Bank::General,
+        symbolic: false,
+        number,
+    })
+}
+
+fn example_ins(form: Form) -> [Option<Reg>; 4]
+    ensures { result ≡ example_ins form }
+{
+    match form {
+        Form::AddRegisters | Form::SubRegisters | Form::EorRegisters | Form::StoreHalf => {
+            [x_register(1), x_register(2), None, None]
+        }
+        _ => [x_register(1), None, None, None],
+    }
+}
+
+fn example_outs(form: Form) -> [Option<Reg>; 3]
+    ensures { result ≡ example_outs form }
+{
+    match form {
+        Form::SubsNumber => [x_register(3), step_flags(CounterOp::Subs), None],
+        Form::StoreHalf => [x_register(2), None, None],
+        _ => [x_register(3), None, None],
     }
 }

@@ -5,7 +5,9 @@ mod few_forms;
 pub mod run;
 pub mod state;
 
-pub use sl_base::NoMemory;
-
 pub use run::{run_list, step};
+pub use sl_base::NoMemory;
 pub use state::State;
+
+#[cfg(test)]
+mod tests;

@@ -97,7 +97,13 @@ fn write_outputs(state: &mut State, outs: &[Option<Reg>], values: &[u128]) -> Re
 // Puts bytes in memory from an address on, and then gives registers their values. After `NoMemory` nothing has
 // changed.
 #[tactic(auto, unfolding(sl_model::specs::State::store))]
-fn store_bytes(state: &mut State, name: ArchName, address: u64, bytes: &[u8], outputs: Outputs) -> Result<(), NoMemory>
+fn store_bytes(
+    state: &mut State,
+    name: ArchName,
+    address: u64,
+    bytes: &[u8],
+    outputs: Outputs,
+) -> Result<(), NoMemory>
     ensures ok { OnOk result (state.new ≡ write_all (filter_map (λ r. r) outputs.entry.regs.now) outputs.entry.values.now (record { regs = state.old.regs; memory = store (space_of name) address bytes.now state.old.memory })) }
     ensures err { OnErr result (state.new ≡ state.old) }
 {
@@ -135,7 +141,13 @@ fn load_access(state: &State, name: ArchName, access: Option<Access>, bytes: &mu
 // Stores what an access takes of some bytes, and then gives registers their values. After `NoMemory` nothing has
 // changed.
 #[tactic(auto, unfolding(crate::specs::Moves::stored_at))]
-fn store_access(state: &mut State, name: ArchName, access: Option<Access>, bytes: &[u8], outputs: Outputs) -> Result<(), NoMemory>
+fn store_access(
+    state: &mut State,
+    name: ArchName,
+    access: Option<Access>,
+    bytes: &[u8],
+    outputs: Outputs,
+) -> Result<(), NoMemory>
     requires { IfSome access (λ a. a.size ≤ length bytes.now) }
     ensures ok { OnOk result (state.new ≡ write_all (filter_map (λ r. r) outputs.entry.regs.now) outputs.entry.values.now (record { regs = state.old.regs; memory = stored_at (space_of name) access bytes.now state.old.memory })) }
     ensures err { OnErr result (state.new ≡ state.old) }
@@ -146,7 +158,13 @@ fn store_access(state: &mut State, name: ArchName, access: Option<Access>, bytes
     if !access.store {
         return write_outputs(state, outputs.regs, outputs.values);
     }
-    store_bytes(state, name, access.address, &bytes[..usize::from(access.size)], outputs)
+    store_bytes(
+        state,
+        name,
+        access.address,
+        &bytes[..usize::from(access.size)],
+        outputs,
+    )
 }
 
 /// Does one instruction: it takes the values of its operands and the bytes that it loads from the state, and then

@@ -1,8 +1,11 @@
 //! States: the registers and the bytes of memory that were set.
-ghost use Rattle.std.specs.Prelude.{◌≡◌, ◌∷◌, [], OnOk, OnErr, IsSome};
+ghost use Rattle.std.specs.Prelude.{◌≡◌, ◌∷◌, [], ◌<◌, OnOk, OnErr, IsSome};
 ghost use Rattle.std.specs.FinMap.{get};
 ghost use Rattle.sl_model.specs.Register.{bank_number};
 ghost use Rattle.sl_model.specs.State.{reg_key, is_zero, read, write, byte, put};
+ghost use Rattle.sl_model.specs.Isa.{Isa};
+ghost use Rattle.sl_model.specs.Lawful.{IsLawful};
+ghost use Rattle.machine_sem.specs.Fits.{Fits};
 ghost use Rattle.machine_sem.specs.StateCode.{new_state, restored};
 
 use sl_base::NoMemory;
@@ -32,9 +35,10 @@ impl Model for State {
 }
 
 impl State {
-    /// A state in which nothing was set.
+    /// A state in which nothing was set. It fits each architecture.
     pub fn new(alloc: Global) -> State
-        ensures { result ≡ new_state }
+        ensures value { result ≡ new_state }
+        ensures fits { (isa : Isa) → IsLawful isa → Fits isa result }
     {
         State {
             regs: BTreeMap::new(alloc),
@@ -53,10 +57,12 @@ impl State {
         self.kept(reg).unwrap_or(0)
     }
 
-    /// Gives a register a value. After `NoMemory` nothing has changed.
+    /// Gives a register a value. After `NoMemory` nothing has changed. The state goes on fitting an architecture where
+    /// the value fits the register.
     pub fn set_reg(&mut self, reg: Reg, value: u128) -> Result<(), NoMemory>
         ensures ok { OnOk result (self.new ≡ write reg value self.old) }
         ensures err { OnErr result (self.new ≡ self.old) }
+        ensures fits { (isa : Isa) → IsLawful isa → value < isa.limit reg.bank → Fits isa self.old → Fits isa self.new }
     {
         let Ok(_) = self.regs.insert(key(reg), value) else {
             return Err(NoMemory);
@@ -72,10 +78,12 @@ impl State {
         self.kept_byte(address).unwrap_or(0)
     }
 
-    /// Puts a byte at an address. After `NoMemory` nothing has changed.
+    /// Puts a byte at an address. After `NoMemory` nothing has changed. The state goes on fitting an architecture that
+    /// has the address.
     pub fn set_byte(&mut self, address: u64, value: u8) -> Result<(), NoMemory>
         ensures ok { OnOk result (self.new ≡ record { regs = self.old.regs; memory = put address value self.old.memory }) }
         ensures err { OnErr result (self.new ≡ self.old) }
+        ensures fits { (isa : Isa) → IsLawful isa → address < isa.space → Fits isa self.old → Fits isa self.new }
     {
         let Ok(_) = self.memory.insert(address, value) else {
             return Err(NoMemory);
@@ -95,11 +103,11 @@ impl State {
         requires { IsSome (get self.old.regs (reg_key reg)) }
         ensures { self.new ≡ record { regs = restored self.old.regs (reg_key reg) before; memory = self.old.memory } }
     {
-        let Some(value) = before else {
+        let Some(earlier) = before else {
             self.regs.remove(&key(reg));
             return;
         };
-        let Ok(_) = self.regs.insert(key(reg), value) else {
+        let Ok(_) = self.regs.insert(key(reg), earlier) else {
             unreachable!()
         };
     }
@@ -116,11 +124,11 @@ impl State {
         requires { IsSome (get self.old.memory address) }
         ensures { self.new ≡ record { regs = self.old.regs; memory = restored self.old.memory address before } }
     {
-        let Some(value) = before else {
+        let Some(earlier) = before else {
             self.memory.remove(&address);
             return;
         };
-        let Ok(_) = self.memory.insert(address, value) else {
+        let Ok(_) = self.memory.insert(address, earlier) else {
             unreachable!()
         };
     }

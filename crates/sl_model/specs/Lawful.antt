@@ -62,6 +62,10 @@ pub record IsValid (isa : Isa) (i : Instr) : Type 0 where
 abbrev pub fit : Isa → List Reg → List ℕ → Bool
 fit isa regs values = list_all (λ x. nat_lt x.1 (isa.limit x.0.bank)) (zip regs values)
 
+-- Are these bytes?
+abbrev pub are_bytes : List ℕ → Bool
+are_bytes bytes = list_all (λ b. nat_lt b 256) bytes
+
 -- how many bytes a form loads
 abbrev pub load_size : Isa → ℕ → ℕ
 load_size isa form = if is_load (isa.info form) then (isa.info form).size else 0
@@ -89,8 +93,8 @@ pub record IsLawful (isa : Isa) : Type 0 where
   pub base : (form : ℕ) → has_access (isa.info form) ≡ true → IsBelow (isa.info form).base (set_count (isa.info form).in_sets)
   -- there is a value for each output, and it fits its register
   pub value_count : (i : Instr) (ins loaded : List ℕ) → IsValid isa i → length ins ≡ length (operands i) → length loaded ≡ load_size isa i.form → length (isa.values (op_of i) ins loaded) ≡ length (outputs i)
-  pub values_fit : (i : Instr) (ins loaded : List ℕ) → IsValid isa i → length ins ≡ length (operands i) → length loaded ≡ load_size isa i.form → fit isa (operands i) ins ≡ true → fit isa (outputs i) (isa.values (op_of i) ins loaded) ≡ true
+  pub values_fit : (i : Instr) (ins loaded : List ℕ) → IsValid isa i → length ins ≡ length (operands i) → length loaded ≡ load_size isa i.form → fit isa (operands i) ins ≡ true → are_bytes loaded ≡ true → fit isa (outputs i) (isa.values (op_of i) ins loaded) ≡ true
   -- a store stores as many bytes as its access has
   pub stored_count : (i : Instr) (ins : List ℕ) → IsValid isa i → is_store (isa.info i.form) ≡ true → length ins ≡ length (operands i) → length (isa.stored (op_of i) ins) ≡ (isa.info i.form).size
   -- and they are bytes
-  pub stored_fit : (i : Instr) (ins : List ℕ) → IsValid isa i → is_store (isa.info i.form) ≡ true → length ins ≡ length (operands i) → list_all (λ b. nat_lt b 256) (isa.stored (op_of i) ins) ≡ true
+  pub stored_fit : (i : Instr) (ins : List ℕ) → IsValid isa i → is_store (isa.info i.form) ≡ true → length ins ≡ length (operands i) → are_bytes (isa.stored (op_of i) ins) ≡ true

@@ -1,4 +1,4 @@
-use Rattle.std.proofs.Common.{◌≡◌, ℕ, ◌∷◌, ◌+◌, ◌%◌, length, refl, sym, ap, subst, ◌∙◌}
+use Rattle.std.proofs.Common.{◌∷◌, ◌%◌, length, sym, ap, ◌∙◌}
 use Rattle.sl_model.specs.State.{byte, load}
 use Rattle.sl_model.specs.Machine.{space_of}
 use Rattle.machine_sem.proofs.Wrapped.{load_next}

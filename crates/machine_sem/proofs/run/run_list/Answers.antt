@@ -1,4 +1,4 @@
-use Rattle.std.proofs.Common.{◌≡◌, refl, sym, ap, ◌∙◌}
+use Rattle.std.proofs.Common.{refl, sym, ap, ◌∙◌}
 use Rattle.sl_model.specs.Source.{no_instr}
 use Rattle.sl_model.specs.Exec.{exec, run}
 use Rattle.machine_sem.proofs.Stepping.{run_next}

@@ -1,13 +1,11 @@
-use Rattle.std.proofs.Common.{◌≡◌, ℕ, Option, Some, None, IsSome, refl, sym, ap, subst, ◌∙◌}
+use Rattle.std.proofs.Common.{ℕ, rules, sym, ap, subst, ◌∙◌}
 use Rattle.std.specs.Ordering.{nat_cmp}
 use Rattle.std.specs.Cmp.{nat_cmp_total}
-use Rattle.std.specs.Cmp.Lexicographic.{slice_cmp, nat_list_cmp_total}
-use Rattle.std.specs.BTreeMap.{is_at}
-use Rattle.std.specs.Map.{lookup}
-use Rattle.std.specs.FinMap.{FinMap, get, insert, remove, nat_cmp-IsAntisymmetric, from_entries}
-use Rattle.sl_model.specs.State.{State, reg_key, write, put}
-use Rattle.machine_sem.specs.StateCode.{restored}
-use Rattle.machine_sem.proofs.Maps.{get_kept, one_set, one_removed, keys_differ}
+use Rattle.std.specs.FinMap.{FinMap, nat_cmp-IsAntisymmetric, from_entries}
+use Rattle.sl_model.specs.State.{State, put}
+use Rattle.machine_sem.specs.Fits.{Fits}
+use Rattle.machine_sem.proofs.Fitting.{put_fits}
+use Rattle.machine_sem.proofs.Maps.{one_set}
 use Rattle.machine_sem.proofs.state.State.set_byte.Goals as goal
 
 pub returns-clause-ok : goal.returns-clause-ok
@@ -17,3 +15,6 @@ returns-clause-ok c =
     let put_in : State → State = λ s. record { regs = s.regs; memory = put c.args.address c.args.value s.memory } in
     ap with_memory (one_set nat_cmp_total nat_cmp-IsAntisymmetric c.self.inside.memory.entries c.insert.new.self.entries c.args.address c.args.value c.in-Ok.ensures.updates.0)
     ∙ ap put_in c.self.view_is
+
+pub returns-clause-fits : goal.returns-clause-fits
+returns-clause-fits c = λ isa lawful within fits. subst (Fits isa) (sym (returns-clause-ok c)) (put_fits isa lawful c.args.address c.args.value c.args.self.now within (search rules) fits)
