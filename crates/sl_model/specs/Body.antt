@@ -93,7 +93,7 @@ are_apart isa body p q =
     let i = body.instr p in
     let j = body.instr q in
     tags_differ i.tag j.tag || (same_base (base_source isa body p) (base_source isa body q)
-        && ranges_disjoint (isa.offset (op_of i)) (isa.info i.form).size (isa.offset (op_of j)) (isa.info j.form).size)
+    && ranges_disjoint (isa.offset (op_of i)) (isa.info i.form).size (isa.offset (op_of j)) (isa.info j.form).size)
 
 -- Two accesses conflict where at least one is a store and they aren't apart.
 unfoldable pub conflict : Isa → Body → ℕ → ℕ → Bool

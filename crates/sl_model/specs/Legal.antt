@@ -90,7 +90,7 @@ suits_output isa problem item x =
     let r = x.1.0.0 in
     let value = Item item x.0 in
     set_has (allowed_in problem item) r && (set_has x.1.0.1 r && (suits_readers isa problem value r
-        && (suits_finals problem value r && same_bool (is_flags x.1.1) (is_flags r))))
+    && (suits_finals problem value r && same_bool (is_flags x.1.1) (is_flags r))))
 
 -- Is this value final in this register?
 abbrev pub is_final_in : Problem → Reg → Source → Bool

@@ -4,10 +4,9 @@
 use sl_base::{HostErr, HostFiles, HostOut, NoGate};
 use slothy_cli::{Status, run};
 use std::alloc::{AllocError, Global};
-use std::env;
-use std::io;
 use std::process::ExitCode;
 use std::rt::Env;
+use std::{env, io};
 
 /// The words of the command, the program's name first.
 fn words(rt: &(impl Env + AllocGlobal)) -> io::Result<Vec<String>> {
@@ -28,7 +27,15 @@ fn main(rt: HostRuntime) -> ExitCode {
             let mut files = HostFiles::new(&rt, rt.alloc());
             let mut out = HostOut::new(rt.stdout());
             let mut err = HostErr::new(rt.stderr());
-            run(&rt, rt.alloc(), &words, &mut files, &mut out, &mut err, &NoGate)
+            run(
+                &rt,
+                rt.alloc(),
+                &words,
+                &mut files,
+                &mut out,
+                &mut err,
+                &NoGate,
+            )
         }
         Err(error) => wordless(&error),
     };
