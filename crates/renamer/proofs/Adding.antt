@@ -1,20 +1,39 @@
 -- The example is lawful, its items valid, its schedule legal.
-use Rattle.std.proofs.Common.{◌≡◌, ℕ, zero, suc, ◌+◌, ◌^◌, ◌<◌, true, ◌&&◌, List, [], ◌∷◌, refl, sym, ap, true≢false, arith, le_refl, mod-lt, lt-ltb, slice_index}
+use Rattle.std.proofs.Common.{◌≡◌, ℕ, zero, suc, ◌+◌, ◌^◌, ◌<◌, true, false, ◌&&◌, Bool, List, nat_lt, zip, [], ◌∷◌, refl, sym, ap, true≢false, arith, le_refl, mod-lt, lt-ltb, eqb-true, slice_index}
+use Rattle.std.specs.List.{list_all}
+use Rattle.sl_model.specs.declared.register.Bank.{Bank}
+use Rattle.sl_model.specs.declared.register.Bank.TheVariants.{General, Vector, Flags, Stack}
 use Rattle.sl_model.specs.declared.register.Reg.{Reg}
+use Rattle.sl_model.specs.declared.instruction.ArchName.TheVariants.{M4}
+use Rattle.sl_model.specs.Machine.{limit_of}
 use Rattle.sl_model.specs.Register.{same_reg}
 use Rattle.sl_model.specs.RegSets.{set_has, set_count, set_of}
 use Rattle.sl_model.specs.Source.{outputs, place_from, source_of, list_sources}
 use Rattle.sl_model.specs.Body.{applied, applied_from, are_apart, conflict, is_placed, held, placed_in, is_still_held, above, stands_in, all_differ}
-use Rattle.sl_model.specs.Lawful.{IsLawful, fit}
+use Rattle.sl_model.specs.Lawful.{IsLawful, fit, suits_set}
 use Rattle.sl_model.specs.Legal.{IsFullLegal, body_of, first_broken, numbers_below}
-use Rattle.renamer.specs.Example.{adding_isa, adding_items, adding_problem, adding_schedule, add, general, BreakRules}
+use Rattle.renamer.specs.Example.{adding_isa, adding_form, all_general, adding_items, adding_problem, adding_schedule, add, general, BreakRules}
 use Rattle.renamer.specs.WellPosed.{AreValid}
+use Rattle.renamer.proofs.OwnTests.{and_left}
 
--- one value fits where it is below the limit
-fit-one : (regs : List Reg) (value : ℕ) → value < 2 ^ 32 → fit adding_isa regs (value ∷ []) ≡ true
-fit-one [] value lt = refl
-fit-one (r ∷ []) value lt = ap (λ b. b && true) (lt-ltb value (2 ^ 32) lt)
-fit-one (r ∷ q ∷ regs) value lt = ap (λ b. b && true) (lt-ltb value (2 ^ 32) lt)
+-- only a general register is of the class of the output
+limit-of-class : (bank : Bank) (symbolic : Bool) (number : ℕ) → suits_set (record { bank = bank; symbolic = symbolic; number = number }, all_general) ≡ true → limit_of M4 bank ≡ 2 ^ 32
+unfolding set_has
+limit-of-class General symbolic number suits = refl
+limit-of-class Vector symbolic number suits = refl
+limit-of-class Stack symbolic number suits = refl
+limit-of-class Flags true number suits = absurd (true≢false (sym suits))
+limit-of-class Flags false number suits = absurd (true≢false (sym suits))
+
+-- one value fits the first output where it is below the limit
+fits-first : (r : Reg) (value : ℕ) → suits_set (r, all_general) ≡ true → value < 2 ^ 32 → (nat_lt value (limit_of M4 r.bank) && true) ≡ true
+fits-first r value suits lt = rw (limit-of-class r.bank r.symbolic r.number suits) (ap (λ b. b && true) (lt-ltb value (2 ^ 32) lt))
+
+-- one value fits the outputs of an instruction where it is below the limit
+fit-one : (regs : List Reg) (value : ℕ) → list_all suits_set (zip regs adding_form.out_sets) ≡ true → value < 2 ^ 32 → fit adding_isa regs (value ∷ []) ≡ true
+fit-one [] value suits lt = refl
+fit-one (r ∷ []) value suits lt = fits-first r value (and_left _ _ suits) lt
+fit-one (r ∷ q ∷ regs) value suits lt = fits-first r value (and_left _ _ suits) lt
 
 -- registers have values
 lt_two_pow : 0 < 2 ^ 32
@@ -24,6 +43,9 @@ lt_two_pow = omega arith
 pub adding-lawful : IsLawful adding_isa
 unfolding set_has set_count
 adding-lawful = record {
+  spaces = refl;
+  limits = λ bank. refl;
+  known = λ op valid. omega (arith, eqb-true op.form 0 valid);
   space = le_refl (2 ^ 32);
   sizes = λ form. omega arith;
   offset_low = λ op valid. omega arith;
@@ -31,8 +53,9 @@ adding-lawful = record {
   writable = λ form. refl;
   base = λ form has. absurd (true≢false (sym has));
   value_count = λ i ins loaded valid given found. sym valid.output_count;
-  values_fit = λ i ins loaded valid given found fits. fit-one (outputs i) _ (mod-lt (slice_index ins 0 + slice_index ins 1) lt_two_pow);
+  values_fit = λ i ins loaded valid given found fits. fit-one (outputs i) _ valid.output_classes (mod-lt (slice_index ins 0 + slice_index ins 1) lt_two_pow);
   stored_count = λ i ins valid stores given. absurd (true≢false (sym stores));
+  stored_fit = λ i ins valid stores given. absurd (true≢false (sym stores));
 }
 
 -- the items are valid

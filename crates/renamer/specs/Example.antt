@@ -1,6 +1,6 @@
 -- A small instruction set, and a straight list with a schedule in another order and in other registers: there are lawful
 -- sets, valid items and legal schedules.
-use Rattle.std.specs.Prelude.{ℕ, ◌≡◌, pos, true, false, ◌+◌, ◌-◌, ◌%◌, ◌^◌, List, [], ◌∷◌, slice_index, None, Some}
+use Rattle.std.specs.Prelude.{ℕ, ◌≡◌, ◌==◌, pos, false, ◌+◌, ◌-◌, ◌%◌, ◌^◌, List, [], ◌∷◌, slice_index, None, Some}
 use Rattle.sl_model.specs.declared.register.Bank.TheVariants.{General}
 use Rattle.sl_model.specs.declared.register.Reg.{Reg}
 use Rattle.sl_model.specs.declared.register.RegSet.{RegSet}
@@ -8,6 +8,8 @@ use Rattle.sl_model.specs.declared.instruction.FormInfo.{FormInfo}
 use Rattle.sl_model.specs.declared.instruction.Instr.{Instr}
 use Rattle.sl_model.specs.declared.schedule.Choice.{Choice}
 use Rattle.sl_model.specs.declared.schedule.CostRow.{CostRow}
+use Rattle.sl_model.specs.declared.instruction.ArchName.TheVariants.{M4}
+use Rattle.sl_model.specs.Machine.{space_of, limit_of}
 use Rattle.sl_model.specs.Cycles.{CostTable}
 use Rattle.sl_model.specs.Isa.{Isa}
 use Rattle.sl_model.specs.declared.problem.Rule.TheVariants.{L1, L2, L4, L7}
@@ -40,9 +42,11 @@ adding_form = record {
 -- an instruction set that only adds, with registers of 32 bits
 abbrev pub adding_isa : Isa
 adding_isa = record {
-  space = 2 ^ 32;
-  limit = λ bank. 2 ^ 32;
-  valid = λ op. true;
+  name = M4;
+  forms = 1;
+  space = space_of M4;
+  limit = limit_of M4;
+  valid = λ op. op.form == 0;
   info = λ form. adding_form;
   offset = λ op. pos 0;
   values = λ op ins loaded. (slice_index ins 0 + slice_index ins 1) % 2 ^ 32 ∷ [];
