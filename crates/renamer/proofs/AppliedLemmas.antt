@@ -5,7 +5,7 @@ use Rattle.std.proofs.lemmas.List.{append-nil, drop_all, drop_more, take_more, r
 use Rattle.sl_model.specs.declared.instruction.Instr.{Instr}
 use Rattle.sl_model.specs.declared.schedule.Choice.{Choice}
 use Rattle.sl_model.specs.declared.register.Reg.{Reg}
-use Rattle.sl_model.specs.Body.{Body, chosen, placed_in, applied_item, applied_from}
+use Rattle.sl_model.specs.Body.{Body, chosen, placed_in, applied_item, applied_from, applied}
 
 -- what an option holds, kept as it is
 pub option_map-same : (r o : Option Reg) → option_map (λ x. x) r ≡ o → r ≡ o
@@ -41,10 +41,12 @@ applied-more body schedule place d within =
     ap (applied_from body (reverse (take place schedule))) (drop_more schedule place d within)
     ∙ ap (λ done. applied_item body (reverse (take place schedule)) (get_or schedule place d) ∷ applied_from body done (drop (place + 1) schedule)) (sym (done-more schedule place d within))
 
--- nothing is left to be applied
-pub applied-end : (body : Body) (schedule done : List Choice) (n : ℕ) (items : List Instr) → length schedule ≤ n → items ++ applied_from body done (drop n schedule) ≡ items
+-- where nothing is left, all is applied
+pub applied-all : (body : Body) (schedule : List Choice) (n : ℕ) (items : List Instr) → length schedule ≤ n
+    → items ++ applied_from body (reverse (take n schedule)) (drop n schedule) ≡ applied body schedule → items ≡ applied body schedule
 unfolding applied_from
-applied-end body schedule done n items past = ap (λ rest. items ++ applied_from body done rest) (drop_all n schedule past) ∙ append-nil items
+applied-all body schedule n items past so_far =
+    sym (append-nil items) ∙ ap (λ rest. items ++ applied_from body (reverse (take n schedule)) rest) (sym (drop_all n schedule past)) ∙ so_far
 
 -- with one more item pushed, what is left is as much less
 pub pushed-more : (body : Body) (schedule : List Choice) (place : ℕ) (d : Choice) (items more : List Instr) (instr : Instr) → place < length schedule

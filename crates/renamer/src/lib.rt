@@ -8,3 +8,5 @@ pub mod example;
 pub mod legality;
 pub mod order;
 pub mod straight;
+#[cfg(test)]
+mod tests;

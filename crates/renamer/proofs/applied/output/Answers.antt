@@ -9,4 +9,4 @@ use Rattle.renamer.proofs.applied.output.Goals as goal
 pub returns : goal.returns
 returns c =
     option_map-same c.nth.result _ (nth_from_yields_List c.nth.result c.nth.new.self c.from.result c.nth.ensures.ran (YieldsList-from_filter_map _ (λ o. o) (YieldsList-from_slice c.args.choice.now.outs (cc)) c.filter_map.ensures.closure (λ x r q k. search (rules, tests))))
-      ∙ ap (slice_get (chosen c.args.choice.now)) c.from.ensures
+    ∙ ap (slice_get (chosen c.args.choice.now)) c.from.ensures
