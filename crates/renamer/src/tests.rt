@@ -1,4 +1,4 @@
-ghost use Rattle.std.specs.Prelude.{◌≡◌, ◌<◌, length, nat_lt, IsTrue};
+ghost use Rattle.std.specs.Prelude.{◌≡◌, nat_lt};
 ghost use Rattle.std.specs.List.{list_all};
 
 use crate::apply;
@@ -45,25 +45,31 @@ const fn output(index: u16, place: u8) -> Source {
     Source::Item { index, place }
 }
 
-/// What a schedule of three items with two operands each makes of them.
-fn applied(
+/// Is each choice of one of so many items?
+fn are_known(schedule: &[Choice], count: usize) -> bool
+    ensures { result ≡ list_all (λ c. nat_lt c.item count) schedule.now }
+{
+    schedule
+        .iter()
+        .all(|choice| usize::from(choice.item) < count)
+}
+
+/// Three items with two operands each, in the order of a schedule, are the wanted list.
+fn check(
     rt: &impl Abort,
     alloc: Global,
-    items: &[Instr],
-    sources: &[[Source; 2]],
-    schedule: &[Choice],
-) -> Result<Vec<Instr>, Fail> {
-    assert!(rt;
-        schedule
-            .iter()
-            .all(|choice| usize::from(choice.item) < items.len())
-    );
+    name: &str,
+    items: [Instr; 3],
+    sources: [[Source; 2]; 3],
+    schedule: [Choice; 3],
+    want: [Instr; 3],
+) -> Result<(), Fail> {
     let mut listed = Vec::new(alloc);
-    for pair in sources {
+    for pair in &sources {
         listed.push(Vec::from_slice(alloc, pair)?)?;
     }
     let problem = Problem::of_parts(
-        Vec::from_slice(alloc, items)?,
+        Vec::from_slice(alloc, &items)?,
         Vec::from_slice(alloc, &[0, 1, 2])?,
         listed,
         Vec::new(alloc),
@@ -71,8 +77,10 @@ fn applied(
         Costs::new(alloc, 1, &[], &[])?,
         false,
     );
-    assert_eq!(rt; problem.len(), items.len());
-    Ok(apply(alloc, &problem, items, schedule)?)
+    assert!(rt; problem.len() == 3 && are_known(&schedule, 3));
+    let list = apply(alloc, &problem, &items, &schedule)?;
+    assert_eq!(rt; list.as_slice(), want.as_slice(), "{name}");
+    Ok(())
 }
 
 #[test]
@@ -88,6 +96,19 @@ fn operands_follow_the_outputs_that_they_read(rt: HostRuntime) -> Result<(), Fai
         [entry(0), entry(9)],
         [output(0, 0), output(1, 0)],
     ];
+    check(
+        &rt,
+        rt.alloc(),
+        "another order",
+        sum,
+        sum_sources,
+        [choice(1, 5, None), choice(0, 6, None), choice(2, 7, None)],
+        [
+            instr(2, 5, None, (0, 9)),
+            instr(1, 6, None, (0, 0)),
+            instr(3, 7, None, (6, 5)),
+        ],
+    )?;
     let walk = [
         instr(1, 3, None, (0, 0)),
         instr(2, 2, Some(reg(3)), (3, 8)),
@@ -98,52 +119,38 @@ fn operands_follow_the_outputs_that_they_read(rt: HostRuntime) -> Result<(), Fai
         [output(0, 0), entry(8)],
         [output(1, 0), output(1, 1)],
     ];
-    let cases = [
-        (
-            "another order",
-            sum,
-            sum_sources,
-            [choice(1, 5, None), choice(0, 6, None), choice(2, 7, None)],
-            [
-                instr(2, 5, None, (0, 9)),
-                instr(1, 6, None, (0, 0)),
-                instr(3, 7, None, (6, 5)),
-            ],
-        ),
-        (
-            "an output tied to an operand",
-            walk,
-            walk_sources,
-            [
-                choice(0, 5, None),
-                choice(1, 6, Some(reg(5))),
-                choice(2, 7, None),
-            ],
-            [
-                instr(1, 5, None, (0, 0)),
-                instr(2, 6, Some(reg(5)), (5, 8)),
-                instr(3, 7, None, (6, 5)),
-            ],
-        ),
-        (
-            "the last choice of an item",
-            walk,
-            walk_sources,
-            [
-                choice(0, 5, None),
-                choice(0, 6, None),
-                choice(1, 7, Some(reg(6))),
-            ],
-            [
-                instr(1, 5, None, (0, 0)),
-                instr(1, 6, None, (0, 0)),
-                instr(2, 7, Some(reg(6)), (6, 8)),
-            ],
-        ),
-    ];
-    for (name, items, sources, schedule, want) in cases {
-        let list = applied(&rt, rt.alloc(), &items, &sources, &schedule)?;
-        assert_eq!(rt; list.as_slice(), want.as_slice(), "{name}");
-    }
-    Ok(())
+    check(
+        &rt,
+        rt.alloc(),
+        "an output tied to an operand",
+        walk,
+        walk_sources,
+        [
+            choice(0, 5, None),
+            choice(1, 6, Some(reg(5))),
+            choice(2, 7, None),
+        ],
+        [
+            instr(1, 5, None, (0, 0)),
+            instr(2, 6, Some(reg(5)), (5, 8)),
+            instr(3, 7, None, (6, 5)),
+        ],
+    )?;
+    check(
+        &rt,
+        rt.alloc(),
+        "the last choice of an item",
+        walk,
+        walk_sources,
+        [
+            choice(0, 5, None),
+            choice(0, 6, None),
+            choice(1, 7, Some(reg(6))),
+        ],
+        [
+            instr(1, 5, None, (0, 0)),
+            instr(1, 6, None, (0, 0)),
+            instr(2, 7, Some(reg(6)), (6, 8)),
+        ],
+    )
 }
