@@ -1,5 +1,4 @@
 //! That a faithful order in other registers does the same work.
-#![tactic(auto)]
 
 ghost use Rattle.std.specs.Prelude.{◌≡◌, true, false, List, []};
 ghost use Rattle.sl_model.specs.declared.register.Reg.{Reg};

@@ -1,4 +1,4 @@
-//! Instructions: reading and printing.
+//! Instructions and architectures.
 #![tactic(auto)]
 
 pub mod arch;

@@ -18,7 +18,7 @@ use Rattle.sl_model.specs.Body.{all_differ}
 abbrev pub zero_register : Reg
 zero_register = record { bank = General; symbolic = false; number = 31 }
 
--- a register of a bank that a set has, if any: the sets of a form are of one bank, or of the stack pointer beside it
+-- the bits of a set that are those of a bank
 abbrev pub bank_bits : Bank → RegSet → ℕ
 bank_bits General set = set.bits % 2 ^ 32
 bank_bits Vector set = set.bits / 2 ^ 32 % 2 ^ 32

@@ -1,4 +1,5 @@
--- What programs mean, and when one leaves what another leaves. Source: DDI 0487 and DDI 0403, with the counted loop of GNU as kernels.
+-- What programs mean, and when one leaves what another leaves. Source: DDI 0487 and
+-- DDI 0403; a loop counts a register down to 0 at its end.
 use Rattle.std.specs.Prelude.{ℕ, Bool, true, ◌+◌, ◌%◌, ◌<◌, ◌≡◌, ◌==◌, ◌&&◌, zero, suc, ◌⊎◌, is_some, false, List, [], ◌∷◌, ◌++◌, if◌then◌else◌}
 use Rattle.sl_model.specs.declared.register.Reg.{Reg}
 use Rattle.sl_model.specs.declared.instruction.Instr.{Instr}

@@ -42,7 +42,7 @@ parts_or (Err refusal) = Err (refused_cut refusal)
 abbrev pub parts_from : List ℕ → Result Parts Stop
 parts_from text = parts_or (cut (codes "slothy_start") (codes "slothy_end") text)
 
--- Does a line hold a word that begins what isn't built yet: a macro, an alias, a comment over several lines?
+-- Does a line hold a word that isn't read yet: one of a macro or an alias, or the beginning of a block comment?
 abbrev pub is_unbuilt : List ℕ → Bool
 is_unbuilt line = holds (codes ".macro") line || (holds (codes ".req") line || (holds (codes ".unreq") line || holds (codes "/*") line))
 
@@ -55,7 +55,7 @@ abbrev pub unless_at : {A : Type 0} → Option ℕ → A → Result A Stop
 unless_at None x = Ok x
 unless_at (Some line) x = Err (Refused line reasons.NotYet)
 
--- the parts, where nothing before the region isn't built yet
+-- the parts, where no line up to the start marker's holds such a word
 abbrev pub built_parts : Parts → Result Parts Stop
 built_parts parts = unless_at (first_unbuilt 1 (whole_lines parts.before)) parts
 

@@ -1,7 +1,7 @@
 //! The command: from words to the bytes on standard output.
 #![tactic(auto)]
 
-pub mod command;
+mod command;
 mod cost;
 mod region;
 mod report;

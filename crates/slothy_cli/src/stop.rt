@@ -31,10 +31,12 @@ pub enum Quantity {
 /// Why an input has no answer. Lines are counted from 1, and 0 stands for the whole file.
 #[derive(Clone, Copy, Debug, PartialEq, Eq)]
 pub enum Stop {
+    /// The input is refused at this line, for this reason.
     Refused {
         line: u32,
         reason: Reason,
     },
+    /// The quantity passes its limit at this line.
     TooLarge {
         line: u32,
         quantity: Quantity,

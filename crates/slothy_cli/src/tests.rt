@@ -125,6 +125,7 @@ fn wrong_words_are_wrong_use(rt: HostRuntime) -> Result<(), Fail> {
         "Cost k.s --core one:2",
         "cost k.s --cores one:2",
         "cost k.s core one:2",
+        "cost k.s --core=one:2",
         "cost k.s --core=one:2 x",
         "cost  --core one:2",
         "cost -k.s --core one:2",
@@ -376,7 +377,7 @@ fn each_failing_call_on_the_files_is_a_read_fault(rt: HostRuntime) -> Result<(),
     Ok(())
 }
 
-// The text has 140 bytes, which is 7 writes of at most 20.
+// The text has 138 bytes, which is 7 writes of at most 20.
 #[test]
 fn each_failing_write_leaves_what_was_written_before(rt: HostRuntime) -> Result<(), Fail> {
     let alloc = rt.alloc();
