@@ -2,19 +2,10 @@ ghost use Rattle.std.specs.Prelude.{◌≡◌, ℕ, ◌==◌, ◌&&◌, ◌<◌,
 ghost use Rattle.sl_model.specs.Cycles.{row_of, ready_after, forward_or, is_place};
 ghost use Rattle.issue_cost.specs.Sound.{IsSound, is_sound_row};
 
+use sl_base::NoMemory;
 use sl_model::schedule::{CostRow, Forward};
-use std::alloc::{AllocError, Global};
+use std::alloc::Global;
 use std::marker::Model;
-
-/// There was no memory left.
-#[derive(Clone, Copy, Debug, PartialEq, Eq)]
-pub struct NoMemory;
-
-impl From<AllocError> for NoMemory {
-    fn from(_error: AllocError) -> NoMemory {
-        NoMemory
-    }
-}
 
 /// What a core tells of the items of a list: a row for each item, and the forwards.
 #[derive(Drop)]

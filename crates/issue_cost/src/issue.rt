@@ -3,8 +3,9 @@ ghost use Rattle.sl_model.specs.Cycles.{Push, MayIssue, next_cycle, issued, cycl
 ghost use Rattle.issue_cost.specs.Timeline.{Timeline, IsFreeBy};
 ghost use Rattle.issue_cost.specs.Tallies.{Tallies};
 
-use crate::costs::{Costs, NoMemory};
+use crate::costs::Costs;
 use crate::tally::Tally;
+use sl_base::NoMemory;
 use std::alloc::Global;
 use std::marker::Model;
 

@@ -2,8 +2,9 @@
 //! other.
 #![tactic(auto)]
 
-pub use costs::{Costs, NoMemory};
+pub use costs::Costs;
 pub use issue::Issue;
+pub use sl_base::NoMemory;
 pub use sl_model::schedule::{CostRow, Forward};
 
 mod costs;

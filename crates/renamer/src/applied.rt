@@ -37,9 +37,7 @@ pub fn apply(
     ensures valid { (isa : Isa) → IsSound isa (body_of problem.now) → IsFullLegal isa problem.now schedule.now
         → IfOk result (λ list. AreValid isa list.items) }
 {
-    let Ok(mut list) = Vec::with_capacity(alloc, schedule.len()) else {
-        return Err(NoMemory);
-    };
+    let mut list = Vec::with_capacity(alloc, schedule.len())?;
     for (place, choice) in schedule.iter().enumerate() {
         list.push_reserved(applied_item(problem, items, &schedule[..place], choice));
     }

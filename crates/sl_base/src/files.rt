@@ -5,6 +5,8 @@ ghost use Rattle.std.specs.Io.KnownBytes.{prepend_known, IsAtEnd};
 ghost use Rattle.sl_base.specs.Faults.{HasRisen};
 ghost use Rattle.sl_base.specs.Files.{OnFailed, OnNoMemory};
 
+use std::alloc::AllocError;
+
 /// The world refused: a file couldn't be opened or read, or a sink didn't take the bytes.
 #[derive(Clone, Copy, Debug, PartialEq, Eq, Drop)]
 pub struct Failed;
@@ -12,6 +14,12 @@ pub struct Failed;
 /// Memory ran out.
 #[derive(Clone, Copy, Debug, PartialEq, Eq, Drop)]
 pub struct NoMemory;
+
+impl From<AllocError> for NoMemory {
+    fn from(_error: AllocError) -> NoMemory {
+        NoMemory
+    }
+}
 
 /// Why a file couldn't be chosen.
 #[derive(Clone, Copy, Debug, PartialEq, Eq, Drop)]
