@@ -1,4 +1,4 @@
-ghost use Rattle.std.specs.Prelude.{◌≡◌, ◌<◌, map, length};
+ghost use Rattle.std.specs.Prelude.{◌≡◌, map, length};
 ghost use Rattle.sl_model.specs.Legal.{sources_in};
 
 use issue_cost::Costs;

@@ -1,5 +1,5 @@
 -- How a schedule is applied choice by choice: where an output was placed, and one more choice.
-use Rattle.std.proofs.Common.{◌≡◌, append_assoc, ℕ, ◌+◌, ◌<◌, ◌≤◌, ◌==◌, true, false, List, [], ◌∷◌, ◌++◌, take, drop, reverse, length, slice_get, get_or, Option, None, Some, option_map, option_and_then, if◌then◌else◌, cond, refl, sym, ap, ◌∙◌}
+use Rattle.std.proofs.Common.{◌≡◌, append_assoc, ℕ, ◌+◌, ◌<◌, ◌≤◌, ◌==◌, true, false, List, [], ◌∷◌, ◌++◌, take, drop, reverse, length, slice_get, get_or, Option, None, Some, option_map, option_and_then, cond, refl, sym, ap, ◌∙◌}
 use Rattle.std.specs.List.{find}
 use Rattle.std.proofs.lemmas.List.{append-nil, drop_all, drop_more, take_more, reverse-append}
 use Rattle.sl_model.specs.declared.instruction.Instr.{Instr}

@@ -1,12 +1,9 @@
--- The list so far, and the rest of the schedule applied, are the schedule applied.
-use Rattle.std.proofs.Common.{◌≡◌, ◌<◌, ◌+◌, ◌++◌, [], ◌∷◌, reverse, take, drop, length, get_or, sym, ap, ◌∙◌, subst, append_assoc, arith}
-use Rattle.sl_model.specs.declared.instruction.Instr.{Instr}
-use Rattle.sl_model.specs.declared.schedule.Choice.{Choice}
-use Rattle.sl_model.specs.Body.{applied, applied_from, applied_item}
+-- One more item keeps the invariant; where no choice is left, the list is the schedule applied.
+use Rattle.std.proofs.Common.{[], sym, ◌∙◌, subst, arith}
 use Rattle.sl_model.specs.Legal.{body_of}
 use Rattle.renamer.specs.Outcome.{CarriesProblem}
 use Rattle.renamer.specs.WellPosed.{AreValid}
-use Rattle.renamer.proofs.AppliedLemmas.{applied-more, applied-all, pushed-more}
+use Rattle.renamer.proofs.AppliedLemmas.{applied-all, pushed-more}
 use Rattle.renamer.proofs.LegalityCarries.{legal-carries}
 use Rattle.renamer.proofs.LegalityValid.{applied-valid}
 use Rattle.renamer.proofs.applied.apply.Goals as goal

@@ -1,3 +1,4 @@
+-- The list so far, and the rest of the schedule applied, are the schedule applied; there is room for the rest.
 use Rattle.std.proofs.Common.{◌≡◌, ◌++◌, reverse, take, drop, length, vec_len, vec_capacity}
 use Rattle.sl_model.specs.Body.{applied, applied_from}
 use Rattle.sl_model.specs.Legal.{body_of}

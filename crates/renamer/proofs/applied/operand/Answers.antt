@@ -1,3 +1,4 @@
+-- The operand at a place is the register at that place of those given to the sources.
 use Rattle.std.proofs.Common.{rules, tests, reverse}
 use Rattle.std.proofs.lemmas.Iterator.{YieldsList-from_slice}
 use Rattle.std.proofs.lemmas.Iterator.Consumers.{YieldsList-from_filter_map, nth_from_yields_List}
