@@ -7,8 +7,8 @@ ghost use Rattle.machine_sem.specs.FewLaws.{few_lawful, few_steps};
 
 use sl_isa::{Access, Arch, ArchName, Bank, CounterOp, FormInfo, Instr, Outs, Reg, RegSet};
 
-// `add`, `sub` and `eor` of three x registers; `sub`, `subs` and `lsr` with a number; a load of two bytes, and a store
-// of two bytes that moves its base on.
+// `add`, `sub` and `eor` of three x registers; `sub`, `subs` and `lsr` with a number; a load of two
+// bytes, and a store of two bytes that moves its base on.
 #[derive(Clone, Copy, PartialEq, Eq)]
 enum Form {
     AddRegisters,
@@ -305,7 +305,8 @@ fn exec_form(form: Form, number: u64, ins: &[u128], loaded: &[u8]) -> Outs
     }
 }
 
-// An example of each form: it reads x1, and x2 where it has a second operand, and writes x3; the store moves x2 on.
+// An example of each form: it reads x1, and x2 where it has a second operand, and writes x3; the
+// store moves x2 on.
 #[tactic(auto, using(crate::specs::FewLaws::example_valid))]
 pub(crate) fn example(form: u16, number: u8) -> Instr
     requires known { form < 8 }

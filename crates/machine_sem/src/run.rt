@@ -1,12 +1,12 @@
 //! What instructions do to a state.
-ghost use Rattle.std.specs.Prelude.{◌≡◌, ◌+◌, ◌%◌, ◌≤◌, ◌<◌, ℕ, OnOk, OnErr, IfSome, length, take, map};
-ghost use Rattle.std.specs.List.{filter_map, AllByRecursion};
-ghost use Rattle.sl_model.specs.State.{read, write_all, load, store};
+ghost use Rattle.std.specs.Prelude.{◌≡◌, ◌+◌, ◌%◌, ◌≤◌, ◌<◌, ℕ, OnOk, OnErr, IfSome, length, take};
+ghost use Rattle.std.specs.List.{AllByRecursion};
+ghost use Rattle.sl_model.specs.State.{load, store};
 ghost use Rattle.sl_model.specs.Machine.{space_of};
 ghost use Rattle.sl_model.specs.Exec.{exec, run};
 ghost use Rattle.sl_model.specs.Lawful.{IsValid};
 ghost use Rattle.machine_sem.specs.Fits.{Fits};
-ghost use Rattle.machine_sem.specs.Moves.{loaded_at, stored_at};
+ghost use Rattle.machine_sem.specs.Moves.{with_memory, read_from, written, loaded_at, stored_at};
 
 use crate::State;
 use sl_base::NoMemory;
@@ -39,11 +39,12 @@ fn next_address(name: ArchName, address: u64) -> u64
     }
 }
 
-// The values of the registers that stand in some places go to the front of `values`; says how many there are.
+// The values of the registers that stand in some places go to the front of `values`; says how many
+// there are.
 fn read_operands(state: &State, ins: &[Option<Reg>], values: &mut [u128]) -> usize
     requires { length ins.now ≤ length values.old }
     ensures count { result ≤ length ins.now }
-    ensures values { take result values.new ≡ map (read state.now) (filter_map (λ r. r) ins.now) }
+    ensures values { take result values.new ≡ read_from ins.now state.now }
 {
     let Some((first, ins)) = ins.split_first() else {
         return 0;
@@ -73,7 +74,7 @@ fn load_bytes(state: &State, name: ArchName, address: u64, bytes: &mut [u8])
 // Gives registers their values, one after the other. After `NoMemory` nothing has changed.
 #[tactic(auto, unfolding(sl_model::specs::State::write_all))]
 fn write_outputs(state: &mut State, outs: &[Option<Reg>], values: &[u128]) -> Result<(), NoMemory>
-    ensures ok { OnOk result (state.new ≡ write_all (filter_map (λ r. r) outs.now) values.now state.old) }
+    ensures ok { OnOk result (state.new ≡ written outs.now values.now state.old) }
     ensures err { OnErr result (state.new ≡ state.old) }
 {
     let Some((first, outs)) = outs.split_first() else {
@@ -94,8 +95,8 @@ fn write_outputs(state: &mut State, outs: &[Option<Reg>], values: &[u128]) -> Re
     Ok(())
 }
 
-// Puts bytes in memory from an address on, and then gives registers their values. After `NoMemory` nothing has
-// changed.
+// Puts bytes in memory from an address on, and then gives registers their values. After `NoMemory`
+// nothing has changed.
 #[tactic(auto, unfolding(sl_model::specs::State::store))]
 fn store_bytes(
     state: &mut State,
@@ -104,7 +105,8 @@ fn store_bytes(
     bytes: &[u8],
     outputs: Outputs,
 ) -> Result<(), NoMemory>
-    ensures ok { OnOk result (state.new ≡ write_all (filter_map (λ r. r) outputs.entry.regs.now) outputs.entry.values.now (record { regs = state.old.regs; memory = store (space_of name) address bytes.now state.old.memory })) }
+    ensures ok { OnOk result (state.new ≡ written outputs.entry.regs.now outputs.entry.values.now
+        (with_memory (store (space_of name) address bytes.now state.old.memory) state.old)) }
     ensures err { OnErr result (state.new ≡ state.old) }
 {
     let Some((byte, rest)) = bytes.split_first() else {
@@ -138,8 +140,8 @@ fn load_access(state: &State, name: ArchName, access: Option<Access>, bytes: &mu
     size
 }
 
-// Stores what an access takes of some bytes, and then gives registers their values. After `NoMemory` nothing has
-// changed.
+// Stores what an access takes of some bytes, and then gives registers their values. After `NoMemory`
+// nothing has changed.
 #[tactic(auto, unfolding(crate::specs::Moves::stored_at))]
 fn store_access(
     state: &mut State,
@@ -149,7 +151,8 @@ fn store_access(
     outputs: Outputs,
 ) -> Result<(), NoMemory>
     requires { IfSome access (λ a. a.size ≤ length bytes.now) }
-    ensures ok { OnOk result (state.new ≡ write_all (filter_map (λ r. r) outputs.entry.regs.now) outputs.entry.values.now (record { regs = state.old.regs; memory = stored_at (space_of name) access bytes.now state.old.memory })) }
+    ensures ok { OnOk result (state.new ≡ written outputs.entry.regs.now outputs.entry.values.now
+        (with_memory (stored_at (space_of name) access bytes.now state.old.memory) state.old)) }
     ensures err { OnErr result (state.new ≡ state.old) }
 {
     let Some(access) = access else {
@@ -167,8 +170,8 @@ fn store_access(
     )
 }
 
-/// Does one instruction: it takes the values of its operands and the bytes that it loads from the state, and then
-/// stores its bytes and writes its outputs. After `NoMemory` nothing has changed.
+/// Does one instruction: it takes the values of its operands and the bytes that it loads from the
+/// state, and then stores its bytes and writes its outputs. After `NoMemory` nothing has changed.
 pub fn step<A: Arch>(arch: &A, instr: &Instr, state: &mut State) -> Result<(), NoMemory>
     requires valid { IsValid A.isa instr.now }
     requires fitting { Fits A.isa state.old }
@@ -191,12 +194,14 @@ pub fn step<A: Arch>(arch: &A, instr: &Instr, state: &mut State) -> Result<(), N
     store_access(state, name, access, &outs.bytes, outputs)
 }
 
-/// Does instructions one after the other. After `NoMemory` the state is the one behind some front of them.
+/// Does instructions one after the other. After `NoMemory` the state is the one behind some front of
+/// them.
 pub fn run_list<A: Arch>(arch: &A, items: &[Instr], state: &mut State) -> Result<(), NoMemory>
     requires valid { AllByRecursion (IsValid A.isa) items.now }
     requires fitting { Fits A.isa state.old }
     ensures ok { OnOk result (state.new ≡ run A.isa items.now state.old) }
-    ensures err { OnErr result ((front : ℕ) × (front < length items.now) × (state.new ≡ run A.isa (take front items.now) state.old)) }
+    ensures err { OnErr result ((front : ℕ) × (front < length items.now)
+        × (state.new ≡ run A.isa (take front items.now) state.old)) }
     ensures fits { Fits A.isa state.new }
 {
     for instr in items {

@@ -6,6 +6,7 @@ ghost use Rattle.sl_model.specs.State.{reg_key, is_zero, read, write, byte, put}
 ghost use Rattle.sl_model.specs.Isa.{Isa};
 ghost use Rattle.sl_model.specs.Lawful.{IsLawful};
 ghost use Rattle.machine_sem.specs.Fits.{Fits};
+ghost use Rattle.machine_sem.specs.Moves.{with_memory, with_regs};
 ghost use Rattle.machine_sem.specs.StateCode.{new_state, restored};
 
 use sl_base::NoMemory;
@@ -31,7 +32,10 @@ impl Model for State {
 
     ghost coded = { state_code };
 
-    ghost view = { λ s. record { regs = from_entries s.regs.entries; memory = from_entries s.memory.entries } };
+    ghost view = { λ s. record {
+      regs = from_entries s.regs.entries;
+      memory = from_entries s.memory.entries;
+    } };
 }
 
 impl State {
@@ -46,7 +50,8 @@ impl State {
         }
     }
 
-    /// The value of a register, and 0 where it was never set. That of the zero register of AArch64 is 0.
+    /// The value of a register, and 0 where it was never set. That of the zero register of AArch64
+    /// is 0.
     #[tactic(auto, unfolding(sl_model::specs::State::read))]
     pub fn reg(&self, reg: Reg) -> u128
         ensures { result ≡ read self.now reg }
@@ -57,12 +62,13 @@ impl State {
         self.kept(reg).unwrap_or(0)
     }
 
-    /// Gives a register a value. After `NoMemory` nothing has changed. The state goes on fitting an architecture where
-    /// the value fits the register.
+    /// Gives a register a value. After `NoMemory` nothing has changed. The state goes on fitting an
+    /// architecture where the value fits the register.
     pub fn set_reg(&mut self, reg: Reg, value: u128) -> Result<(), NoMemory>
         ensures ok { OnOk result (self.new ≡ write reg value self.old) }
         ensures err { OnErr result (self.new ≡ self.old) }
-        ensures fits { (isa : Isa) → IsLawful isa → value < isa.limit reg.bank → Fits isa self.old → Fits isa self.new }
+        ensures fits { (isa : Isa) → IsLawful isa → value < isa.limit reg.bank → Fits isa self.old
+            → Fits isa self.new }
     {
         let Ok(_) = self.regs.insert(key(reg), value) else {
             return Err(NoMemory);
@@ -78,10 +84,10 @@ impl State {
         self.kept_byte(address).unwrap_or(0)
     }
 
-    /// Puts a byte at an address. After `NoMemory` nothing has changed. The state goes on fitting an architecture that
-    /// has the address.
+    /// Puts a byte at an address. After `NoMemory` nothing has changed. The state goes on fitting an
+    /// architecture that has the address.
     pub fn set_byte(&mut self, address: u64, value: u8) -> Result<(), NoMemory>
-        ensures ok { OnOk result (self.new ≡ record { regs = self.old.regs; memory = put address value self.old.memory }) }
+        ensures ok { OnOk result (self.new ≡ with_memory (put address value self.old.memory) self.old) }
         ensures err { OnErr result (self.new ≡ self.old) }
         ensures fits { (isa : Isa) → IsLawful isa → address < isa.space → Fits isa self.old → Fits isa self.new }
     {
@@ -101,7 +107,7 @@ impl State {
     // Puts a register that was set back to what it was before.
     pub(crate) fn put_back(&mut self, reg: Reg, before: Option<u128>)
         requires { IsSome (get self.old.regs (reg_key reg)) }
-        ensures { self.new ≡ record { regs = restored self.old.regs (reg_key reg) before; memory = self.old.memory } }
+        ensures { self.new ≡ with_regs (restored self.old.regs (reg_key reg) before) self.old }
     {
         let Some(earlier) = before else {
             self.regs.remove(&key(reg));
@@ -122,7 +128,7 @@ impl State {
     // Puts an address that was set back to what it was before.
     pub(crate) fn put_back_byte(&mut self, address: u64, before: Option<u8>)
         requires { IsSome (get self.old.memory address) }
-        ensures { self.new ≡ record { regs = self.old.regs; memory = restored self.old.memory address before } }
+        ensures { self.new ≡ with_memory (restored self.old.memory address before) self.old }
     {
         let Some(earlier) = before else {
             self.memory.remove(&address);

@@ -61,7 +61,8 @@ fn start(alloc: Global, left: u64, right: u64) -> Result<State, NoMemory>
     Ok(state)
 }
 
-// The examples write x3, and `subs` the flags N, Z, C, V; the load has nothing to find. The values are those of an A64 machine.
+// The examples write x3, and `subs` the flags N, Z, C, V; the load has nothing to find. The values are
+// those of an A64 machine.
 #[test]
 fn values_and_flags(rt: HostRuntime) -> Result<(), Fail> {
     let rows = [
@@ -87,7 +88,8 @@ fn values_and_flags(rt: HostRuntime) -> Result<(), Fail> {
     Ok(())
 }
 
-// A store at the last address puts its second byte at address 0, and moves its base on; a load finds both, the low byte first.
+// A store at the last address puts its second byte at address 0, and moves its base on; a load finds
+// both, the low byte first.
 #[test]
 fn a_store_and_a_load(rt: HostRuntime) -> Result<(), Fail> {
     let mut state = start(rt.alloc(), u64::MAX - 4, u64::MAX).map_err(|_| AllocError)?;

@@ -43,14 +43,15 @@ pub trait Arch {
         requires { IsValid isa instr.now }
         ensures { result ≡ isa.offset (op_of instr.now) };
 
-    /// The access of an instruction whose operands have the values `ins`: None exactly where its form has none.
+    /// The access of an instruction whose operands have the values `ins`: None exactly where its form
+    /// has none.
     fn access(&self, instr: &Instr, ins: &[u128]) -> Option<Access>
         requires valid { IsValid isa instr.now }
         requires operands { AreOperands isa instr.now ins.now }
         ensures { result ≡ access_of isa instr.now ins.now };
 
-    /// What an instruction gives whose operands have the values `ins` and that loads the bytes `loaded`. Places that it
-    /// doesn't fill are 0.
+    /// What an instruction gives whose operands have the values `ins` and that loads the bytes
+    /// `loaded`. Places that it doesn't fill are 0.
     fn exec(&self, instr: &Instr, ins: &[u128], loaded: &[u8]) -> Outs
         requires valid { IsValid isa instr.now }
         requires operands { AreOperands isa instr.now ins.now }
@@ -68,5 +69,6 @@ pub trait Arch {
     ghost lawful: { IsLawful isa };
 
     // The instruction of a step makes it.
-    ghost steps: { (op : CounterOpValue) (counter : RegValue) (line : ℕ) → can_count isa.name counter ≡ true → IsStep op → Steps isa op counter line (step_of op counter line) };
+    ghost steps: { (op : CounterOpValue) (counter : RegValue) (line : ℕ) → can_count isa.name counter ≡ true
+        → IsStep op → Steps isa op counter line (step_of op counter line) };
 }
