@@ -4,4 +4,5 @@ pub mod Above
 pub mod CostText
 pub mod Outcome
 pub mod Messages
+pub mod Printed
 pub mod Ending
