@@ -4,5 +4,9 @@
 pub use problem::Problem;
 pub use sl_model::problem::Rule;
 pub use sl_model::schedule::{Choice, Source};
+pub use straight::written;
 
 mod problem;
+pub mod sets;
+pub mod sources;
+mod straight;
