@@ -1,10 +1,11 @@
 //! The straight problem of a list of items.
 
-ghost use Rattle.std.specs.Prelude.{◌≡◌, ◌<◌, ◌≤◌, ◌++◌, map, filter, not, length, IfOk, OnOk};
+ghost use Rattle.std.specs.Prelude.{◌≡◌, ℕ, ◌<◌, ◌≤◌, [], ◌++◌, map, filter, not, length, slice_index_or, IfOk, OnOk};
 ghost use Rattle.std.specs.List.{filter_map};
 ghost use Rattle.sl_model.specs.Source.{list_sources, last_source};
 ghost use Rattle.sl_model.specs.RegSets.{set_of};
 ghost use Rattle.sl_model.specs.Legal.{numbers_below, written, straight_problem};
+ghost use Rattle.legal_space.specs.Timed.{HasKnownSources};
 
 use crate::problem::Problem;
 use crate::sets::set_of;
@@ -26,15 +27,14 @@ impl Problem {
         costs: Costs,
     ) -> Result<Problem, NoMemory>
         requires { length items.items ≤ 65535 }
-        ensures { IfOk result (λ problem. problem ≡ straight_problem items.items live.now free.now costs) }
+        ensures straight { IfOk result (λ problem. problem ≡ straight_problem items.items live.now free.now costs) }
+        ensures sources { IfOk result (λ problem. HasKnownSources problem) }
     {
         let order = numbers_below(alloc, items.len() as u16)?;
         let sources = all_sources(alloc, &items)?;
         let finals = finals_of(alloc, &items, live)?;
         let allowed = allowed_of(alloc, &items, free)?;
-        Ok(Problem::of_parts(
-            items, order, sources, finals, allowed, costs, false,
-        ))
+        Ok(Problem::of_parts(items, order, sources, finals, allowed, costs, false))
     }
 }
 
@@ -54,7 +54,8 @@ fn numbers_below(alloc: Global, end: u16) -> Result<Vec<u16>, NoMemory>
 fn sources_at(alloc: Global, items: &[Instr], place: usize) -> Result<Vec<Source>, NoMemory>
     requires place { place < length items.now }
     requires few { length items.now ≤ 65535 }
-    ensures { IfOk result (λ sources. sources.items ≡ list_sources items.now place) }
+    ensures sources { IfOk result (λ sources. sources.items ≡ list_sources items.now place) }
+    ensures few { IfOk result (λ sources. length sources.items ≤ 4) }
 {
     let above = &items[..place];
     let sources = items[place]
@@ -69,7 +70,8 @@ fn sources_at(alloc: Global, items: &[Instr], place: usize) -> Result<Vec<Source
 /// The sources of the operands of each item.
 fn all_sources(alloc: Global, items: &[Instr]) -> Result<Vec<Vec<Source>>, NoMemory>
     requires { length items.now ≤ 65535 }
-    ensures { IfOk result (λ all. map (λ v. v.items) all.items ≡ map (list_sources items.now) (numbers_below (length items.now))) }
+    ensures sources { IfOk result (λ all. map (λ v. v.items) all.items ≡ map (list_sources items.now) (numbers_below (length items.now))) }
+    ensures few { IfOk result (λ all. (item : ℕ) → length (slice_index_or (map (λ v. v.items) all.items) item []) ≤ 4) }
 {
     let mut all = Vec::new(alloc);
     for place in 0..items.len() {
@@ -127,4 +129,56 @@ fn add_concrete(regs: &mut Vec<Reg>, outs: &[Option<Reg>]) -> Result<(), NoMemor
         }
     }
     Ok(())
+}
+
+#[cfg(test)]
+mod tests {
+    use super::*;
+    use sl_model::register::Bank;
+    use std::test::Fail;
+
+    /// A general register.
+    const fn general(number: u16) -> Reg {
+        Reg {
+            bank: Bank::General,
+            symbolic: false,
+            number,
+        }
+    }
+
+    /// An instruction that reads two registers and writes one.
+    fn sum_of(out: u16, left: u16, right: u16) -> Instr {
+        Instr {
+            form: 0,
+            wide: false,
+            imms: [0; 3],
+            ins: [Some(general(left)), Some(general(right)), None, None],
+            outs: [Some(general(out)), None, None],
+            tag: None,
+            early: false,
+            late: false,
+            line: 1,
+        }
+    }
+
+    #[test]
+    fn a_chain_reads_what_stands_above(rt: HostRuntime) -> Result<(), Fail> {
+        let alloc = rt.alloc();
+        let items = vec![in alloc; sum_of(2, 1, 0), sum_of(3, 2, 1), sum_of(2, 3, 2)]?;
+        assert_eq!(rt; set_of(&written(alloc, &items)?).bits, 0b1100);
+        let costs = Costs::new(alloc, 1, &[], &[])?;
+        let live = [general(2), general(9)];
+        let problem = Problem::straight(alloc, items, &live, &[general(5)], costs)?;
+        assert_eq!(rt; (problem.len(), problem.order()), (3, &[0, 1, 2][..]));
+        let first = Source::Item { index: 0, place: 0 };
+        let second = Source::Item { index: 1, place: 0 };
+        let last = Source::Item { index: 2, place: 0 };
+        let entry = Source::Entry(general(1));
+        assert_eq!(rt; problem.sources_of(1), &[first, entry][..]);
+        assert_eq!(rt; problem.sources_of(2), &[second, first][..]);
+        let finals = [(live[0], last), (live[1], Source::Entry(live[1]))];
+        assert_eq!(rt; problem.finals(), &finals[..]);
+        assert_eq!(rt; problem.allowed_for(1).bits, 0b10_1100);
+        Ok(())
+    }
 }

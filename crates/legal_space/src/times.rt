@@ -106,3 +106,83 @@ fn stalls(items: usize, width: u8, cycles: u32) -> u32
     let filled = (items as u32 + width - 1) / width;
     cycles.saturating_sub(filled)
 }
+
+#[cfg(test)]
+mod tests {
+    use super::*;
+    use issue_cost::CostRow;
+    use sl_model::instruction::Instr;
+    use sl_model::register::{Bank, Reg};
+    use std::process::Abort;
+    use std::test::Fail;
+
+    /// An item whose result is ready after 2 cycles.
+    const ROW: CostRow = CostRow {
+        class: 0,
+        units: 1,
+        busy: 1,
+        latency: 2,
+        writeback: 2,
+        back: None,
+    };
+
+    /// An instruction that reads a register and writes one.
+    fn copy_of(out: u16, from: u16) -> Instr {
+        let general = |number: u16| Reg {
+            bank: Bank::General,
+            symbolic: false,
+            number,
+        };
+        Instr {
+            form: 0,
+            wide: false,
+            imms: [0; 3],
+            ins: [Some(general(from)), None, None, None],
+            outs: [Some(general(out)), None, None],
+            tag: None,
+            early: false,
+            late: false,
+            line: 1,
+        }
+    }
+
+    /// The times of three items in an order.
+    fn times_in(
+        rt: &impl Abort,
+        alloc: Global,
+        problem: &Problem,
+        order: [u16; 3],
+    ) -> Result<Times, NoMemory>
+        requires items { length problem.now.items ≡ 3 }
+        requires rows { length problem.now.costs.rows ≡ 3 }
+        requires sources { HasKnownSources problem.now }
+    {
+        let [first, second, third] = order;
+        assert!(rt; first < 3 && second < 3 && third < 3);
+        let schedule = [first, second, third].map(|item| Choice {
+            item,
+            unit: 0,
+            outs: [None; 3],
+        });
+        times_of(alloc, problem, &schedule)
+    }
+
+    #[test]
+    fn an_item_waits_for_what_was_issued_before(rt: HostRuntime) -> Result<(), Fail> {
+        let alloc = rt.alloc();
+        let items = vec![in alloc; copy_of(1, 0), copy_of(2, 1), copy_of(3, 0)]?;
+        let costs = Costs::new(alloc, 1, &[ROW; 3], &[])?;
+        let problem = Problem::straight(alloc, items, &[], &[], costs)?;
+        let cases = [
+            ("as they stand", [0, 1, 2], [0, 2, 3], (4, 1)),
+            ("one between", [0, 2, 1], [0, 1, 2], (3, 0)),
+            ("before its source", [1, 0, 2], [2, 3, 4], (5, 2)),
+        ];
+        for (name, order, cycles, counts) in cases {
+            let times = times_in(&rt, alloc, &problem, order)?;
+            assert_eq!(rt; times.cycles.as_slice(), &cycles[..], "{name}");
+            assert_eq!(rt; (times.count, times.stalls), counts, "{name}");
+        }
+        Ok(())
+    }
+}
