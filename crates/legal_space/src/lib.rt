@@ -4,5 +4,11 @@
 pub use problem::Problem;
 pub use sl_model::problem::Rule;
 pub use sl_model::schedule::{Choice, Source};
+pub use straight::written;
+pub use times::{Times, times_of};
 
 mod problem;
+pub mod sets;
+pub mod sources;
+mod straight;
+mod times;

@@ -10,5 +10,6 @@ pub mod Exec
 pub mod Body
 pub mod Lawful
 pub mod Legal
+pub mod Space
 pub mod Program
 pub mod Machine

@@ -1,6 +1,6 @@
 -- The machines: how many addresses there are, how wide registers are, and which of them count. Source: DDI 0487
 -- (A64) and DDI 0403 (Armv7-M).
-use Rattle.std.specs.Prelude.{ℕ, Bool, false, ◌^◌, ◌==◌, ◌&&◌, ◌||◌, not, nat_lt}
+use Rattle.std.specs.Prelude.{ℕ, Bool, ◌^◌, ◌==◌, ◌&&◌, ◌||◌, not, nat_lt}
 use Rattle.sl_model.specs.declared.register.Bank.{Bank}
 use Rattle.sl_model.specs.declared.register.Bank.TheVariants.{General, Vector, Flags, Stack}
 use Rattle.sl_model.specs.declared.register.Reg.{Reg}

@@ -1,5 +1,5 @@
 -- What the ending of a call says of its status.
-use Rattle.std.proofs.Common.{◌≡◌, ℕ, ◌↔◌, List, Option, None, Some, Result, Ok, Err, refl, ap, sym, ◌∙◌, subst}
+use Rattle.std.proofs.Common.{◌≡◌, ℕ, ◌↔◌, List, Option, None, Some, Result, Ok, Err, refl, ap, ◌∙◌, subst}
 use Rattle.std.specs.Prelude.{MatchOption}
 use Rattle.slothy_cli.specs.declared.stop.Quantity.TheVariants as quantities
 use Rattle.slothy_cli.specs.declared.stop.Stop.{Stop}
@@ -7,10 +7,10 @@ use Rattle.slothy_cli.specs.declared.stop.Stop.TheVariants.{Refused, TooLarge}
 use Rattle.slothy_cli.specs.declared.status.Status.TheVariants as statuses
 use Rattle.slothy_cli.specs.declared.status.Ending.{Ending}
 use Rattle.slothy_cli.specs.declared.status.Ending.TheVariants as endings
-use Rattle.slothy_cli.specs.Command.{CostCommand, command_of}
+use Rattle.slothy_cli.specs.Command.{CostCommand}
 use Rattle.slothy_cli.specs.Outcome.{cost_outcome}
 use Rattle.slothy_cli.specs.Messages.{status_of, stop_status}
-use Rattle.slothy_cli.specs.Ending.{FilesRun, SinkRun, TookNothing, AreOf, HasText, HasStop, Ends, Call, IsStatusOf}
+use Rattle.slothy_cli.specs.Ending.{FilesRun, SinkRun, TookNothing, AreOf, Ends, IsStatusOf}
 
 -- what the words ask for has ended so
 abbrev pub HasEnded : Option CostCommand → (List ℕ → Option (List ℕ)) → FilesRun → SinkRun → Ending → Type 0

@@ -1,12 +1,12 @@
 -- Why there is no text.
-use Rattle.std.proofs.Common.{◌≡◌, ℕ, ◌+◌, ◌-◌, ◌<◌, ◌≤◌, Bool, true, false, zero, suc, List, [], ◌∷◌, length, Option, None, Some, Result, Ok, Err, refl, ap, sym, ◌∙◌, subst, arith, cond, nat_lt}
+use Rattle.std.proofs.Common.{◌≡◌, ℕ, ◌+◌, ◌-◌, ◌<◌, ◌≤◌, true, false, zero, suc, List, [], ◌∷◌, length, Option, None, Some, Result, Ok, Err, refl, ap, sym, subst, arith, cond, nat_lt}
 use Rattle.std.specs.Option.{IfSome}
 use Rattle.std.specs.Prelude.{⊤}
 use Rattle.std.proofs.lemmas.Bool.Decides.{nat_tests}
 use Rattle.sl_model.specs.declared.instruction.Instr.{Instr}
 use Rattle.sl_model.specs.declared.text.CutRefusal.{CutRefusal}
 use Rattle.sl_model.specs.declared.text.CutRefusal.TheVariants as cuts
-use Rattle.sl_model.specs.Text.{Parts, whole_lines, cut, bad_line}
+use Rattle.sl_model.specs.Text.{Parts, whole_lines, bad_line}
 use Rattle.sl_isa.specs.ThreeForms.{read_instr}
 use Rattle.sl_base.specs.Faults.{HasRisen}
 use Rattle.sl_base.specs.Reading.{MatchReadErr}

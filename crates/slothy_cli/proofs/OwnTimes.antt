@@ -14,7 +14,7 @@ use Rattle.sl_model.specs.Legal.{numbers_below}
 use Rattle.issue_cost.specs.Timeline.{IsFreeBy}
 use Rattle.issue_cost.proofs.IssueRule.{IsFreeBy-weaken, issued_from-push}
 use Rattle.issue_cost.specs.Sound.{IsSound, is_sound_row}
-use Rattle.slothy_cli.specs.Above.{HasCycles}
+use Rattle.legal_space.specs.Above.{HasCycles}
 use Rattle.slothy_cli.specs.CostText.{cost_head, cost_lines, text_of, own_choice, own_times, plain_costs, plain_row}
 
 -- further choices put before some, so that the last stands first

@@ -2,7 +2,6 @@
 use Rattle.std.specs.Prelude.{ℕ, Bool, true, false, ◌≡◌, ◌<◌, List, [], length, take, Option, None, Some, Result, Ok, Err, MatchOption, IfSome, MatchBool, ◌⊎◌}
 use Rattle.std.specs.Io.KnownBytes.{append_known}
 use Rattle.sl_base.specs.Faults.{HasRisen}
-use Rattle.slothy_cli.specs.declared.stop.Quantity.{Quantity}
 use Rattle.slothy_cli.specs.declared.stop.Quantity.TheVariants as quantities
 use Rattle.slothy_cli.specs.declared.stop.Stop.{Stop}
 use Rattle.slothy_cli.specs.declared.stop.Stop.TheVariants as stops

@@ -1,6 +1,5 @@
 pub mod Command
 pub mod Shown
-pub mod Above
 pub mod CostText
 pub mod Outcome
 pub mod Messages

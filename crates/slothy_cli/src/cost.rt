@@ -5,10 +5,10 @@ ghost use Rattle.sl_model.specs.declared.schedule.Choice.{Choice};
 ghost use Rattle.std.specs.List.{filter_map};
 ghost use Rattle.sl_model.specs.Source.{source_of, list_sources};
 ghost use Rattle.sl_model.specs.Cycles.{Issued, ready_at, ready_from, cycles_of, cycle_count, stalls};
-ghost use Rattle.slothy_cli.specs.Above.{IsAbove, HasCycles};
+ghost use Rattle.legal_space.specs.Above.{IsAbove, HasCycles};
 ghost use Rattle.slothy_cli.specs.CostText.{plain_row, plain_costs, own_times, cost_line, cost_lines, cost_head, cost_text};
 
-use crate::sources::source_of;
+use legal_space::sources::source_of;
 use issue_cost::{CostRow, Costs, Issue, NoMemory};
 use sl_isa::three_forms::Spelled;
 use sl_model::instruction::Instr;

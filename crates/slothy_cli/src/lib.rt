@@ -5,7 +5,6 @@ mod command;
 mod cost;
 mod region;
 mod report;
-mod sources;
 pub mod status;
 pub mod stop;
 #[cfg(test)]

@@ -3,7 +3,7 @@ use Rattle.std.specs.List.{filter_map}
 use Rattle.sl_model.specs.declared.schedule.Choice.{Choice}
 use Rattle.sl_model.specs.Source.{source_of}
 use Rattle.sl_model.specs.Cycles.{Issued, ready_from}
-use Rattle.slothy_cli.specs.Above.{HasCycles}
+use Rattle.legal_space.specs.Above.{HasCycles}
 use Rattle.slothy_cli.proofs.cost.ready_among.Given as goal
 
 abbrev pub invariant-loop-register : goal.invariant-loop-register

@@ -1,4 +1,4 @@
-use Rattle.std.proofs.Common.{◌≡◌, List, Result, subst, sym, ap}
+use Rattle.std.proofs.Common.{List, Result, subst, sym}
 use Rattle.std.proofs.lemmas.Result.{err_from_is_err_and}
 use Rattle.sl_model.specs.declared.instruction.Instr.{Instr}
 use Rattle.slothy_cli.specs.declared.stop.Stop.{Stop}

@@ -1,8 +1,7 @@
-use Rattle.std.proofs.Common.{◌≡◌, ◌<◌, ◌+◌, ◌-◌, [], ◌∷◌, ◌++◌, ap, sym, ◌∙◌, rules, arith, length, length-append, Some, Ok, append-nil}
+use Rattle.std.proofs.Common.{◌≡◌, ◌<◌, ◌+◌, ◌-◌, [], ◌∷◌, ◌++◌, ap, sym, ◌∙◌, rules, arith, length, length-append, Ok, append-nil}
 use Rattle.slothy_cli.specs.Outcome.{items_from}
-use Rattle.slothy_cli.proofs.Items.{with_front, no_lines, no_front, items_none, items_refused, items_full, items_more}
+use Rattle.slothy_cli.proofs.Items.{with_front, no_lines, items_none, items_refused, items_full, items_more}
 use Rattle.sl_model.specs.Text.{whole_lines}
-use Rattle.sl_isa.specs.ThreeForms.{read_instr}
 use Rattle.slothy_cli.proofs.region.items_from.Goals as goal
 
 pub returns-in_default-read_line-clause-answer : goal.returns-in_default-read_line-clause-answer

@@ -1,6 +1,5 @@
-use Rattle.std.proofs.Common.{◌≡◌, ◌≤◌, length, ap, ◌∙◌, arith}
+use Rattle.std.proofs.Common.{◌≤◌, length, ap, ◌∙◌, arith}
 use Rattle.slothy_cli.specs.Shown.{shown}
-use Rattle.slothy_cli.specs.Ending.{HasCause}
 use Rattle.slothy_cli.proofs.Causes.{unread_cause, unanswered_cause}
 use Rattle.slothy_cli.proofs.work.text_of_file.Goals as goal
 

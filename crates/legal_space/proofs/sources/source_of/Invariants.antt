@@ -1,6 +1,6 @@
 use Rattle.std.proofs.Common.{◌≡◌, ◌≤◌, length, reverse}
 use Rattle.sl_model.specs.Source.{source_of}
-use Rattle.slothy_cli.proofs.sources.source_of.Given as goal
+use Rattle.legal_space.proofs.sources.source_of.Given as goal
 
 -- the source below the items left is that below all
 abbrev pub invariant-loop-last : goal.invariant-loop-last

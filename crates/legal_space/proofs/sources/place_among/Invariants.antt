@@ -1,7 +1,7 @@
 use Rattle.std.proofs.Common.{◌≡◌, ◌≤◌, drop}
 use Rattle.std.specs.List.{filter_map}
 use Rattle.sl_model.specs.Source.{place_from}
-use Rattle.slothy_cli.proofs.sources.place_among.Given as goal
+use Rattle.legal_space.proofs.sources.place_among.Given as goal
 
 -- the register stands among the outputs left where it stands among all
 abbrev pub invariant-loop-output : goal.invariant-loop-output

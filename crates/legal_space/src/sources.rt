@@ -4,7 +4,7 @@ ghost use Rattle.std.specs.Prelude.{◌≡◌, ◌≤◌, length, reverse, IfSom
 ghost use Rattle.std.specs.List.{filter_map};
 ghost use Rattle.sl_model.specs.Register.{same_reg};
 ghost use Rattle.sl_model.specs.Source.{outputs, place_from, source_of};
-ghost use Rattle.slothy_cli.specs.Above.{IsAbove};
+ghost use Rattle.legal_space.specs.Above.{IsAbove};
 
 use sl_model::instruction::Instr;
 use sl_model::register::Reg;

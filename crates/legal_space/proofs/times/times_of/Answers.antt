@@ -1,0 +1,119 @@
+use Rattle.std.proofs.Common.{◌≡◌, ℕ, suc, ◌+◌, ◌*◌, ◌<◌, ◌≤◌, List, [], ◌∷◌, ◌++◌, length, take, reverse, set, replicate, get_or, EachIndex, sym, ap, ap₂, ◌∙◌, subst, arith, rules}
+use Rattle.std.proofs.lemmas.List.{length_push, length-set, length-replicate}
+use Rattle.sl_model.specs.declared.schedule.Choice.{Choice}
+use Rattle.sl_model.specs.declared.schedule.Source.{Source}
+use Rattle.sl_model.specs.Cycles.{CostTable, Issued, Push, issued, issued_from, timed, timed_from, cycles_of, cycle_count, next_cycle, ready_from, row_of, stalls}
+use Rattle.sl_model.specs.Legal.{sources_in}
+use Rattle.issue_cost.specs.Timeline.{IsFreeBy, Timeline}
+use Rattle.issue_cost.proofs.IssueRule.{IsFreeBy-weaken}
+use Rattle.legal_space.specs.Above.{HasCycles}
+use Rattle.legal_space.proofs.TimesLemmas.{has_cycles-none, early-none, has_cycles-more, early-more, free-more, next_issued, choices-more, timed-more, timed-done, item-known}
+use Rattle.legal_space.proofs.times.times_of.Goals as goal
+
+pub loop-choice-init : goal.loop-choice-init
+unfolding issued_from
+loop-choice-init c =
+    let zeros : c.in_ok-latest.latest.items ≡ replicate c.len.result 0 = c.in_ok-latest.ensures.items_if_clones_equal (λ y e. e) in
+    let none : issued c.in_ok-issue.issue.pushes ≡ [] = ap (λ v. issued v.pushes) c.in_ok-issue.ensures in
+    record {
+      whole = ap (λ done. timed_from c.args.problem.now.costs (sources_in c.args.problem.now) [] done c.args.schedule.now) none;
+      cycles = c.new-cycles.ensures.items ∙ ap cycles_of (sym none);
+      count = ap length none;
+      pushes = ap (λ v. length v.pushes) c.in_ok-issue.ensures;
+      room = ap (λ v. v.room) c.in_ok-issue.ensures;
+      items = ap length zeros ∙ length-replicate c.len.result 0 ∙ c.len.ensures;
+      has = subst (λ done. HasCycles c.in_ok-latest.latest.items [] done) (sym none) (has_cycles-none c.len.result c.in_ok-latest.latest.items zeros);
+      early = early-none c.len.result c.in_ok-latest.latest.items zeros;
+      free = subst (λ done. IsFreeBy (512 * 0) done) (sym none) tt;
+    }
+
+pub push-cycle-requires-clause-ready : goal.push-cycle-requires-clause-ready
+push-cycle-requires-clause-ready c =
+    let k : ℕ = c.loop-choice.choice-index in
+    let early : EachIndex c.deref.result.now (λ q. get_or c.deref.result.now q 0 ≤ 512 * k) =
+    subst (λ cs. EachIndex cs (λ q. get_or cs q 0 ≤ 512 * k)) (sym c.deref.ensures.value) c.loop-choice.invariant.early in
+    let soon : c.ready_among-ready.result ≤ 512 * k + 255 = c.ready_among-ready.ensures.early (512 * k) early in
+    omega arith
+
+pub loop-choice-preserved : goal.loop-choice-preserved
+loop-choice-preserved c =
+    let d : Choice = record { item = 0; unit = 0; outs = [] } in
+    let k : ℕ = c.loop-choice.choice-index in
+    let schedule : List Choice = c.args.schedule.now in
+    let choice : Choice = get_or schedule k d in
+    let costs : CostTable = c.args.problem.now.costs in
+    let before : List Choice = reverse (take k schedule) in
+    let done : List Issued = issued c.loop-choice.issue.pushes in
+    let more : List Issued = issued c.push-cycle.new.self.pushes in
+    let latest : List ℕ = c.loop-choice.latest.items in
+    let next : List ℕ = set latest c.from.result c.push-cycle.result in
+    let ready : ℕ = c.ready_among-ready.result in
+    let cycle : ℕ = c.push-cycle.result in
+    let given : c.costs-costs.result.now ≡ costs = c.costs-costs.ensures in
+    let theirs : c.sources_of-sources.result.now ≡ sources_in c.args.problem.now choice.item = c.sources_of-sources.ensures in
+    let seen : HasCycles c.deref.result.now before done = subst (λ cs. HasCycles cs before done) (sym c.deref.ensures.value) c.loop-choice.invariant.has in
+    let at : ready ≡ ready_from costs before done choice.item 0 (sources_in c.args.problem.now choice.item) =
+    c.ready_among-ready.ensures.ready before done seen
+    ∙ ap₂ (λ (v : CostTable) (sources : List Source). ready_from v before done choice.item 0 sources) given theirs in
+    let counted : cycle ≡ next_cycle costs.width choice.unit ready done =
+    c.push-cycle.ensures.cycle ∙ ap (λ (v : CostTable). next_cycle v.width choice.unit ready done) given in
+    let one_more : more ≡ next_issued costs choice cycle ∷ done =
+    c.push-cycle.ensures.counted ∙ ap (λ (v : CostTable). next_issued v choice cycle ∷ done) given in
+    let early : EachIndex c.deref.result.now (λ q. get_or c.deref.result.now q 0 ≤ 512 * k) =
+    subst (λ cs. EachIndex cs (λ q. get_or cs q 0 ≤ 512 * k)) (sym c.deref.ensures.value) c.loop-choice.invariant.early in
+    let soon_ready : ready ≤ 512 * k + 255 = c.ready_among-ready.ensures.early (512 * k) early in
+    let soon : cycle ≤ 512 * k + 255 =
+    c.push-cycle.ensures.within (512 * k + 255) (IsFreeBy-weaken (512 * k) (512 * k + 255) done (omega arith) c.loop-choice.invariant.free) soon_ready in
+    let busy : c.busy-busy.result ≡ (row_of costs choice.item).busy =
+    c.busy-busy.ensures.busy ∙ ap (λ (v : CostTable). (row_of v choice.item).busy) given in
+    let brief : (row_of costs choice.item).busy ≤ 255 = subst (λ n. n ≤ 255) busy c.busy-busy.ensures.most in
+    let known : choice.item < length c.args.problem.now.items = item-known (length c.args.problem.now.items) schedule k d c.requires.known c.loop-choice-test.true in
+    let inside : choice.item < length latest = subst (λ n. choice.item < n) (sym c.loop-choice.invariant.items) known in
+    let stored : next ≡ set latest choice.item cycle = ap (λ n. set latest n cycle) c.from.ensures in
+    let pushed : length c.push-cycle.new.self.pushes ≡ length c.loop-choice.issue.pushes + 1 =
+    ap (λ (v : Timeline). length v.pushes) c.push-cycle.ensures.pushed
+    ∙ length_push c.loop-choice.issue.pushes (record { width = c.costs-costs.result.now.width; unit = choice.unit; busy = (row_of c.costs-costs.result.now choice.item).busy; ready = ready }) in
+    let told : c.push.new.self.items ≡ c.loop-choice.cycles.items ++ cycle ∷ [] = search rules in
+    let counts : length done ≡ k = c.loop-choice.invariant.count in
+    let longer : length more ≡ suc (length done) = ap length one_more in
+    record {
+      whole = timed-more costs (sources_in c.args.problem.now) schedule done more k ready cycle d c.loop-choice-test.true at counted one_more ∙ c.loop-choice.invariant.whole;
+      cycles = told ∙ ap (λ (cs : List ℕ). cs ++ cycle ∷ []) c.loop-choice.invariant.cycles ∙ ap cycles_of (sym one_more);
+      count = omega arith;
+      pushes = pushed ∙ ap (λ n. n + 1) c.loop-choice.invariant.pushes;
+      room = ap (λ (v : Timeline). v.room) c.push-cycle.ensures.pushed ∙ c.loop-choice.invariant.room;
+      items = length-set latest c.from.result cycle ∙ c.loop-choice.invariant.items;
+      has = subst (λ choices. HasCycles next choices more) (sym (choices-more schedule k d c.loop-choice-test.true))
+          (subst (λ all. HasCycles next (choice ∷ before) all) (sym one_more)
+          (has_cycles-more latest next before done choice (next_issued costs choice cycle) c.loop-choice.invariant.has inside stored));
+      early = early-more latest next choice.item cycle k c.loop-choice.invariant.early inside soon stored;
+      free = subst (λ all. IsFreeBy (512 * (k + 1)) all) (sym one_more) (free-more k (next_issued costs choice cycle) done c.loop-choice.invariant.free soon brief);
+    }
+
+pub returns-clause-cycles : goal.returns-clause-cycles
+returns-clause-cycles c =
+    let all : List Issued = timed c.args.problem.now.costs (sources_in c.args.problem.now) c.args.schedule.now in
+    let issued_all : issued c.loop-choice.issue.pushes ≡ all =
+    timed-done c.args.problem.now.costs (sources_in c.args.problem.now) c.args.schedule.now (issued c.loop-choice.issue.pushes) all
+    c.loop-choice.choice-index c.loop-choice-test.false c.loop-choice.invariant.whole in
+    c.loop-choice.invariant.cycles ∙ ap cycles_of issued_all
+
+pub returns-clause-count : goal.returns-clause-count
+returns-clause-count c =
+    let all : List Issued = timed c.args.problem.now.costs (sources_in c.args.problem.now) c.args.schedule.now in
+    let issued_all : issued c.loop-choice.issue.pushes ≡ all =
+    timed-done c.args.problem.now.costs (sources_in c.args.problem.now) c.args.schedule.now (issued c.loop-choice.issue.pushes) all
+    c.loop-choice.choice-index c.loop-choice-test.false c.loop-choice.invariant.whole in
+    c.cycles-count.ensures.cycles ∙ ap cycle_count issued_all
+
+pub returns-clause-stalls : goal.returns-clause-stalls
+returns-clause-stalls c =
+    let all : List Issued = timed c.args.problem.now.costs (sources_in c.args.problem.now) c.args.schedule.now in
+    let issued_all : issued c.loop-choice.issue.pushes ≡ all =
+    timed-done c.args.problem.now.costs (sources_in c.args.problem.now) c.args.schedule.now (issued c.loop-choice.issue.pushes) all
+    c.loop-choice.choice-index c.loop-choice-test.false c.loop-choice.invariant.whole in
+    let width : c.width.result ≡ c.args.problem.now.costs.width = c.width.ensures.width ∙ ap (λ (v : CostTable). v.width) c.costs-costs.ensures in
+    let counts : length (issued c.loop-choice.issue.pushes) ≡ c.loop-choice.choice-index = c.loop-choice.invariant.count in
+    let many : length (issued c.loop-choice.issue.pushes) ≡ length c.args.schedule.now = omega arith in
+    c.stalls-stalls.ensures (issued c.loop-choice.issue.pushes) many (sym c.cycles-count.ensures.cycles)
+    ∙ ap₂ (λ w done. stalls w done) width issued_all
