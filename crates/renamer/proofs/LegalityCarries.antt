@@ -3,7 +3,7 @@ use Rattle.std.proofs.Common.{List, [], ap, ◌∙◌}
 use Rattle.sl_model.specs.declared.schedule.Choice.{Choice}
 use Rattle.sl_model.specs.State.{State}
 use Rattle.sl_model.specs.Isa.{Isa}
-use Rattle.sl_model.specs.Body.{Body, flow_of, source_value}
+use Rattle.sl_model.specs.Body.{Body, flow_of, source_value, applied}
 use Rattle.sl_model.specs.Lawful.{IsLawful}
 use Rattle.sl_model.specs.Legal.{Problem, IsFullLegal, body_of}
 use Rattle.sl_model.specs.Program.{TagsHoldOf}
@@ -16,7 +16,7 @@ use Rattle.renamer.proofs.LegalityFaithful.{legal-faithful}
 use Rattle.renamer.proofs.LegalityFinals.{finals-hold}
 
 -- A full legal schedule carries out its problem.
-pub legal-carries : (isa : Isa) (problem : Problem) (schedule : List Choice) (s : State) → IsLawful isa → IsWellPosed isa problem → IsFullLegal isa problem schedule → TagsHoldOf isa.space (flow_of isa (body_of problem) s).touches → CarriesProblem isa problem schedule s
+pub legal-carries : (isa : Isa) (problem : Problem) (schedule : List Choice) (s : State) → IsLawful isa → IsWellPosed isa problem → IsFullLegal isa problem schedule → TagsHoldOf isa.space (flow_of isa (body_of problem) s).touches → CarriesProblem isa problem schedule (applied (body_of problem) schedule) s
 legal-carries isa problem schedule s lawful posed legal tags =
     let body : Body = body_of problem in
     let carried : Carries isa body schedule s = order-carries isa body s lawful posed.sound tags schedule (legal-faithful isa problem [] schedule lawful posed.sound legal.legal) legal.full in

@@ -19,3 +19,4 @@ pub mod StraightSets
 pub mod StraightPosed
 pub mod StraightLeaves
 pub mod Adding
+pub mod AppliedLemmas

@@ -38,5 +38,5 @@ pub fn applied_is_valid()
 pub fn legal_schedule_carries()
     ensures { (isa : Isa) (problem : Problem) (schedule : List Choice) (s : State) → IsLawful isa → IsWellPosed isa problem
         → IsFullLegal isa problem schedule → TagsHoldOf isa.space (flow_of isa (body_of problem) s).touches
-        → CarriesProblem isa problem schedule s }
+        → CarriesProblem isa problem schedule (applied (body_of problem) schedule) s }
 {}

@@ -1,7 +1,12 @@
 //! A schedule as a list of instructions, and that it computes the same.
 #![tactic(auto)]
 
+pub use applied::apply;
+
+mod applied;
 pub mod example;
 pub mod legality;
 pub mod order;
 pub mod straight;
+#[cfg(test)]
+mod tests;

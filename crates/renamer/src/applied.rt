@@ -1,0 +1,114 @@
+ghost use Rattle.std.specs.Prelude.{ℕ, ◌≡◌, ◌==◌, ◌<◌, reverse, find, length, slice_get, nat_lt, IsTrue, IfOk};
+ghost use Rattle.std.specs.List.{list_all, filter_map};
+ghost use Rattle.std.specs.Option.{option_copied};
+ghost use Rattle.sl_model.specs.State.{State};
+ghost use Rattle.sl_model.specs.Isa.{Isa};
+ghost use Rattle.sl_model.specs.Body.{chosen, placed_in, given, applied_item, applied, flow_of};
+ghost use Rattle.sl_model.specs.Lawful.{IsLawful};
+ghost use Rattle.sl_model.specs.Legal.{IsFullLegal, body_of};
+ghost use Rattle.sl_model.specs.Program.{TagsHoldOf};
+ghost use Rattle.renamer.specs.Faithful.{IsSound};
+ghost use Rattle.renamer.specs.Outcome.{CarriesProblem};
+ghost use Rattle.renamer.specs.WellPosed.{AreValid, IsWellPosed};
+
+use legal_space::{Choice, Problem, Source};
+use sl_base::NoMemory;
+use sl_model::instruction::Instr;
+use sl_model::register::Reg;
+use std::alloc::Global;
+
+/// The items of a problem in the order of a schedule, each output in its chosen register and each operand in the
+/// register given to its source. Each choice is of an item of the problem.
+///
+/// Of a full legal schedule of a well-posed problem these are instructions of the set, and they do what the problem's
+/// items do, whatever the instruction set and the state.
+pub fn apply(
+    alloc: Global,
+    problem: &Problem,
+    items: &[Instr],
+    schedule: &[Choice],
+) -> Result<Vec<Instr>, NoMemory>
+    requires items { items.now ≡ problem.now.items }
+    requires known { IsTrue (list_all (λ c. nat_lt c.item (length problem.now.items)) schedule.now) }
+    ensures applied { IfOk result (λ list. list.items ≡ applied (body_of problem.now) schedule.now) }
+    ensures carries { (isa : Isa) (s : State) → IsLawful isa → IsWellPosed isa problem.now
+        → IsFullLegal isa problem.now schedule.now → TagsHoldOf isa.space (flow_of isa (body_of problem.now) s).touches
+        → IfOk result (λ list. CarriesProblem isa problem.now schedule.now list.items s) }
+    ensures valid { (isa : Isa) → IsSound isa (body_of problem.now) → IsFullLegal isa problem.now schedule.now
+        → IfOk result (λ list. AreValid isa list.items) }
+{
+    let Ok(mut list) = Vec::with_capacity(alloc, schedule.len()) else {
+        return Err(NoMemory);
+    };
+    for (place, choice) in schedule.iter().enumerate() {
+        list.push_reserved(applied_item(problem, items, &schedule[..place], choice));
+    }
+    Ok(list)
+}
+
+// The item of a choice as it stands after the choices made before.
+fn applied_item(problem: &Problem, items: &[Instr], done: &[Choice], choice: &Choice) -> Instr
+    requires items { items.now ≡ problem.now.items }
+    requires known { choice.now.item < length items.now }
+    ensures { result ≡ applied_item (body_of problem.now) (reverse done.now) choice.now }
+{
+    let sources = problem.sources_of(choice.item);
+    Instr {
+        ins: [
+            operand(done, sources, 0),
+            operand(done, sources, 1),
+            operand(done, sources, 2),
+            operand(done, sources, 3),
+        ],
+        outs: choice.outs,
+        ..items[usize::from(choice.item)]
+    }
+}
+
+// The register at a place among those given to sources.
+fn operand(done: &[Choice], sources: &[Source], place: usize) -> Option<Reg>
+    ensures { result ≡ slice_get (filter_map (given (reverse done.now)) sources.now) place }
+{
+    sources
+        .iter()
+        .filter_map(|source| given(done, *source))
+        .nth(place)
+}
+
+// The register given to a source.
+fn given(done: &[Choice], source: Source) -> Option<Reg>
+    ensures { result ≡ given (reverse done.now) source }
+{
+    match source {
+        Source::Entry(reg) => Some(reg),
+        Source::Item { index, place } => placed_in(done, index, place),
+    }
+}
+
+// The register in which an output of an item was placed.
+fn placed_in(done: &[Choice], item: u16, place: u8) -> Option<Reg>
+    ensures { result ≡ placed_in (reverse done.now) item place }
+{
+    let Some(choice) = last_choice(done, item) else {
+        return None;
+    };
+    output(choice, place)
+}
+
+// The last choice of an item.
+fn last_choice(done: &[Choice], item: u16) -> Option<&Choice>
+    ensures { option_copied result ≡ find (λ c. c.item == item) (reverse done.now) }
+{
+    done.iter().rev().find(|choice| choice.item == item)
+}
+
+// The register chosen for the output at a place.
+fn output(choice: &Choice, place: u8) -> Option<Reg>
+    ensures { result ≡ slice_get (chosen choice.now) place }
+{
+    choice
+        .outs
+        .iter()
+        .filter_map(|out| *out)
+        .nth(usize::from(place))
+}
