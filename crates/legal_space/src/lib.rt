@@ -4,5 +4,12 @@
 pub use problem::Problem;
 pub use sl_model::problem::Rule;
 pub use sl_model::schedule::{Choice, Source};
+pub use test::first_broken;
 
+mod accesses;
+mod operands;
+mod outputs;
+mod placed;
 mod problem;
+mod registers;
+mod test;

@@ -1,5 +1,5 @@
 ghost use Rattle.std.specs.Prelude.{◌≡◌, ◌<◌, map, length};
-ghost use Rattle.sl_model.specs.Legal.{sources_in};
+ghost use Rattle.sl_model.specs.Legal.{sources_in, allowed_in};
 
 use issue_cost::Costs;
 use sl_model::instruction::Instr;
@@ -75,6 +75,44 @@ impl Problem {
         ensures { result ≡ length self.now.items }
     {
         self.items.len()
+    }
+
+    /// The items.
+    pub fn items(&self) -> &[Instr]
+        ensures { result.now ≡ self.now.items }
+    {
+        &self.items
+    }
+
+    /// The numbers of the items in the order in which they stand.
+    pub fn order(&self) -> &[u16]
+        ensures { result.now ≡ self.now.order }
+    {
+        &self.order
+    }
+
+    /// The registers with the value that must stand in them at the end.
+    pub fn finals(&self) -> &[(Reg, Source)]
+        ensures { result.now ≡ self.now.finals }
+    {
+        &self.finals
+    }
+
+    /// The registers that an item may write; none where there is no such item.
+    pub fn allowed_for(&self, item: u16) -> RegSet
+        ensures { result ≡ allowed_in self.now item }
+    {
+        match self.allowed.get(usize::from(item)) {
+            Some(set) => *set,
+            None => RegSet { bits: 0 },
+        }
+    }
+
+    /// What the items cost.
+    pub fn costs(&self) -> &Costs
+        ensures { result.now ≡ self.now.costs }
+    {
+        &self.costs
     }
 
     /// The sources of an item's operands, in their order; none where there is no such item.
