@@ -1,1 +1,3 @@
+pub mod LoopSteps
 pub mod PlacedLemmas
+pub mod Units

@@ -218,8 +218,12 @@ fn is_reader(problem: &Problem, done: &[Choice], item: u16, reader: u16, value: 
     if is_placed(done, reader) {
         return false;
     }
-    problem
-        .sources_of(reader)
-        .iter()
-        .any(|source| same_source(value, *source))
+    is_read(problem.sources_of(reader), value)
+}
+
+// Is a value among sources?
+fn is_read(sources: &[Source], value: Source) -> bool
+    ensures { result ≡ list_any (same_source value) sources.now }
+{
+    sources.iter().any(|source| same_source(value, *source))
 }

@@ -1,6 +1,6 @@
 //! What the choices made so far have done. They stand in the order in which they were made.
-ghost use Rattle.std.specs.Prelude.{◌≡◌, ◌==◌, ℕ, ◌<◌, reverse, slice_get, is_some, IfSome};
-ghost use Rattle.std.specs.List.{find};
+ghost use Rattle.std.specs.Prelude.{◌≡◌, ◌==◌, ℕ, ◌≤◌, reverse, length, slice_get, is_some};
+ghost use Rattle.std.specs.List.{find, filter_map, list_any};
 ghost use Rattle.std.specs.Option.{option_copied};
 ghost use Rattle.sl_model.specs.declared.schedule.Source.TheVariants.{Entry, Item};
 ghost use Rattle.sl_model.specs.Source.{place_from};
@@ -11,11 +11,17 @@ use sl_model::register::Reg;
 use sl_model::schedule::{Choice, Source};
 
 /// Was an item placed?
-#[tactic(auto, using(crate::proofs::PlacedLemmas::is_placed_any))]
 pub fn is_placed(done: &[Choice], item: u16) -> bool
     ensures { result ≡ is_placed (reverse done.now) item }
 {
-    done.iter().rev().any(|choice| choice.item == item)
+    has_choice(done, item)
+}
+
+// Is a choice of an item among these?
+fn has_choice(choices: &[Choice], item: u16) -> bool
+    ensures { result ≡ list_any (λ c. c.item == item) choices.now }
+{
+    choices.iter().any(|choice| choice.item == item)
 }
 
 /// Are these the same source?
@@ -77,8 +83,16 @@ fn last_writer(done: &[Choice], reg: Reg) -> Option<&Choice>
 fn place_of(choice: &Choice, reg: Reg) -> Option<u8>
     ensures { result ≡ place_from 0 reg (chosen choice.now) }
 {
+    place_among(&choice.outs, reg)
+}
+
+// The place of a register among outputs, at most 3.
+fn place_among(outs: &[Option<Reg>], reg: Reg) -> Option<u8>
+    requires { length outs.now ≤ 3 }
+    ensures { result ≡ place_from 0 reg (filter_map (λ r. r) outs.now) }
+{
     let mut place = 0;
-    for out in &choice.outs {
+    for out in outs {
         let Some(out) = out else {
             continue;
         };
