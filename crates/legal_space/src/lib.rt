@@ -1,15 +1,19 @@
 //! Problems of scheduling: items, what they read, and what a schedule of them has to keep.
 #![tactic(auto)]
 
+pub use listing::best_schedule;
 pub use problem::Problem;
 pub use sl_model::problem::Rule;
 pub use sl_model::schedule::{Choice, Source};
 pub use test::first_broken;
 
 mod accesses;
+mod best;
+mod listing;
 mod operands;
 mod outputs;
 mod placed;
 mod problem;
 mod registers;
+mod stalls;
 mod test;
