@@ -10,7 +10,7 @@ use Rattle.sl_model.specs.Source.{place_from, output_or}
 use Rattle.sl_model.specs.Body.{chosen, is_placed, placed_in, held}
 
 -- an item was placed where a choice is of it
-is_placed-any : (done : List Choice) (item : ℕ) → is_placed done item ≡ list_any (λ c. c.item == item) done
+pub is_placed-any : (done : List Choice) (item : ℕ) → is_placed done item ≡ list_any (λ c. c.item == item) done
 unfolding is_placed
 is_placed-any [] item = refl
 is_placed-any (c ∷ done) item = ap (λ b. c.item == item || b) (is_placed-any done item)
