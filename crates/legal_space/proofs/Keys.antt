@@ -8,10 +8,10 @@ use Rattle.std.proofs.lemmas.Bool.{le-ltb, ne_eqb, eq-eqb, cond-false, cond-true
 use Rattle.sl_model.specs.declared.schedule.Choice.{Choice}
 use Rattle.sl_model.specs.RegSets.{bit_of}
 use Rattle.sl_model.specs.Body.{chosen}
-use Rattle.sl_model.specs.Legal.{Problem, numbers_below}
+use Rattle.sl_model.specs.Legal.{Problem, keeps_l6, numbers_below}
 use Rattle.sl_model.specs.Space.{choice_key, schedule_key, comes_before}
-use Rattle.legal_space.specs.Listing.{own_choice, own_choices, all_choices}
-use Rattle.legal_space.proofs.Members.{Has, Ordered, ordered-map, ordered-flat_map, ordered-numbers, from-map, from-numbers}
+use Rattle.legal_space.specs.Listing.{own_choice, choices_below, own_choices, all_choices}
+use Rattle.legal_space.proofs.Members.{Has, Ordered, ordered-map, ordered-flat_map, ordered-numbers, ordered-filter, from-map, from-filter}
 
 nat_cmp-same : (n : ℕ) → nat_cmp n n ≡ Equal
 nat_cmp-same n =
@@ -75,11 +75,11 @@ item-before problem p q u v less =
 
 -- the choices are listed by their keys
 pub ordered-choices : (problem : Problem) → Ordered Before (all_choices problem)
-unfolding all_choices own_choices
+unfolding all_choices own_choices choices_below
 ordered-choices problem =
     ordered-flat_map (λ p q. p < q) Before (own_choices problem) (numbers_below _) (ordered-numbers _)
-    (λ p h. ordered-map (λ u v. u < v) Before (own_choice problem p) (numbers_below 16) (ordered-numbers 16) (unit-before problem p))
+    (λ p h. ordered-filter Before (keeps_l6 problem) (map (own_choice problem p) (numbers_below 16)) (ordered-map (λ u v. u < v) Before (own_choice problem p) (numbers_below 16) (ordered-numbers 16) (unit-before problem p)))
     (λ p q c d less hc hd.
-    let m = from-map (own_choice problem p) c (numbers_below 16) hc in
-    let n = from-map (own_choice problem q) d (numbers_below 16) hd in
+    let m = from-map (own_choice problem p) c (numbers_below 16) (from-filter (keeps_l6 problem) c (map (own_choice problem p) (numbers_below 16)) hc) in
+    let n = from-map (own_choice problem q) d (numbers_below 16) (from-filter (keeps_l6 problem) d (map (own_choice problem q) (numbers_below 16)) hd) in
     subst (λ x. Before x d) m.2 (subst (λ y. Before (own_choice problem p m.0) y) n.2 (item-before problem p q m.0 n.0 less)))

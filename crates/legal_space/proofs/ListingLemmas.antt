@@ -1,21 +1,23 @@
 -- Which schedules are listed, and in which order.
-use Rattle.std.proofs.Common.{◌≡◌, ℕ, zero, suc, ◌+◌, ◌^◌, ◌<◌, ◌≤◌, ◌⊎◌, Bool, true, false, ◌&&◌, ◌||◌, not, eqb, List, [], ◌∷◌, ◌++◌, reverse, length, Option, None, Some, is_some, cond, if◌then◌else◌, inl, inr, refl, sym, ap, ◌∙◌, subst, ⊎_elim, true≢false, append_assoc, arith}
+use Rattle.std.proofs.Common.{◌≡◌, ℕ, zero, suc, ◌+◌, ◌-◌, ◌^◌, ◌<◌, ◌≤◌, ◌⊎◌, Bool, true, false, ◌&&◌, ◌||◌, not, eqb, List, [], ◌∷◌, ◌++◌, reverse, map, filter, length, drop, get_or, Option, None, Some, is_some, cond, if◌then◌else◌, inl, inr, refl, sym, ap, ◌∙◌, subst, ⊎_elim, true≢false, append_assoc, add-one, nat_lt, arith}
 use Rattle.std.specs.List.{list_all, list_any, flat_map}
-use Rattle.std.proofs.lemmas.List.{append-nil, reverse-append}
-use Rattle.std.proofs.lemmas.Bool.{cases_Bool, and_parts, or_left, or_right, or_cases, eqb-true, eq-eqb, not-true, both_ways, cases_lt, false_from_ne_true, cond-true, cond-false}
+use Rattle.std.proofs.lemmas.List.{append-nil, reverse-append, reverse-reverse, map-append, drop_more, drop_all}
+use Rattle.std.proofs.lemmas.List.Elements.{filter-append}
+use Rattle.std.proofs.lemmas.List.Concat.{flat_map-append}
+use Rattle.std.proofs.lemmas.Bool.{cases_Bool, and_parts, and_from, lt-ltb, or_left, or_right, or_cases, eqb-true, eq-eqb, not-true, both_ways, cases_lt, false_from_ne_true, cond-true, cond-false}
 use Rattle.sl_model.specs.declared.schedule.Choice.{Choice}
 use Rattle.sl_model.specs.declared.problem.Rule.{Rule}
 use Rattle.sl_model.specs.Isa.{Isa}
 use Rattle.sl_model.specs.Body.{is_placed, is_full, stands_in}
 use Rattle.sl_model.specs.Cycles.{row_of}
-use Rattle.sl_model.specs.Legal.{Problem, IsOf, IsLegalNext, IsLegalFrom, IsFullLegal, first_broken, keeps_l1, numbers_below}
+use Rattle.sl_model.specs.Legal.{Problem, IsOf, IsLegalNext, IsLegalFrom, IsFullLegal, first_broken, keeps_l1, keeps_l6, numbers_below}
 use Rattle.sl_model.specs.Space.{InSpace, IsBest, stalls_of, comes_before}
-use Rattle.legal_space.specs.Listing.{IsListable, own_choice, own_choices, all_choices, listed, Found, best_of}
+use Rattle.legal_space.specs.Listing.{IsListable, is_known, own_choice, choices_below, own_choices, all_choices, listed, Found, better, best_of}
 use Rattle.legal_space.proofs.PlacedLemmas.{is_placed-any, any_placed}
-use Rattle.legal_space.proofs.Members.{Has, Ordered, has-flat_map, from-flat_map, ordered-flat_map, has-map, from-map, has-numbers, from-numbers, length-numbers}
+use Rattle.legal_space.proofs.Members.{Has, Ordered, has-all, has-filter, from-filter, has-flat_map, from-flat_map, ordered-flat_map, has-map, from-map, has-numbers, from-numbers, length-numbers}
 use Rattle.legal_space.proofs.Keys.{Before, NotBehind, branch-before, ordered-choices}
 use Rattle.legal_space.proofs.Forced.{KeepsRules, keeps_rules, standing-passes, known-item, forced-choice, own-of, forced-reduced_from}
-use Rattle.legal_space.proofs.FoundLemmas.{IsOutcome, best_of-outcome}
+use Rattle.legal_space.proofs.FoundLemmas.{IsOutcome, best_of-outcome, best_of-append}
 use Rattle.legal_space.proofs.Units.{no_bit_past}
 
 -- whichever way choices are listed, they place the same items
@@ -127,21 +129,53 @@ not-full isa problem done c legal = false_from_ne_true (is_full problem.order do
 
 module _ (isa : Isa) (problem : Problem) (choices : List Choice) where
   -- what is listed under a choice
-  abbrev under : ℕ → List Choice → Choice → List (List Choice)
+  abbrev pub under : ℕ → List Choice → Choice → List (List Choice)
   under left done c = if is_some (first_broken isa problem done c) then [] else listed isa problem choices left (c ∷ done)
 
-  listed-full : (left : ℕ) (done : List Choice) → is_full problem.order done ≡ true → listed isa problem choices left done ≡ reverse done ∷ []
+  pub listed-full : (left : ℕ) (done : List Choice) → is_full problem.order done ≡ true → listed isa problem choices left done ≡ reverse done ∷ []
   unfolding listed
   listed-full zero done full = ap (λ b. if b then reverse done ∷ [] else []) full
   listed-full (suc left) done full = ap (λ b. if b then reverse done ∷ [] else flat_map (under left done) choices) full
 
-  listed-done : (done : List Choice) → is_full problem.order done ≡ false → listed isa problem choices zero done ≡ []
+  pub listed-done : (done : List Choice) → is_full problem.order done ≡ false → listed isa problem choices zero done ≡ []
   unfolding listed
   listed-done done full = ap (λ b. if b then reverse done ∷ [] else []) full
 
   listed-more : (left : ℕ) (done : List Choice) → is_full problem.order done ≡ false → listed isa problem choices (suc left) done ≡ flat_map (under left done) choices
   unfolding listed
   listed-more left done full = ap (λ b. if b then reverse done ∷ [] else flat_map (under left done) choices) full
+
+  -- the same where choices are left
+  pub listed-left : (left : ℕ) (done : List Choice) → (left ≡ 0 → ⊥) → is_full problem.order done ≡ false → listed isa problem choices left done ≡ flat_map (under (left - 1) done) choices
+  listed-left zero done some more = absurd (some refl)
+  listed-left (suc left) done some more =
+      let less : left ≡ suc left - 1 = omega arith in
+      listed-more left done more ∙ ap (λ n. flat_map (under n done) choices) less
+
+  -- a choice that breaks a rule is passed over
+  pub step-passed : (left : ℕ) (done : List Choice) (i : ℕ) (d : Choice) (best total : Found) → i < length choices → is_some (first_broken isa problem done (get_or choices i d)) ≡ true
+      → best_of problem best (flat_map (under left done) (drop i choices)) ≡ total → best_of problem best (flat_map (under left done) (drop (i + 1) choices)) ≡ total
+  step-passed left done i d best total within broken is =
+      sym (ap (λ xs. best_of problem best (flat_map (under left done) xs)) (drop_more choices i d within)
+      ∙ ap (λ b. best_of problem best ((if b then [] else listed isa problem choices left (get_or choices i d ∷ done)) ++ flat_map (under left done) (drop (i + 1) choices))) broken)
+      ∙ is
+
+  -- what is listed under one that breaks none is offered
+  pub step-taken : (left : ℕ) (done : List Choice) (i : ℕ) (d : Choice) (best next total : Found) → i < length choices → is_some (first_broken isa problem done (get_or choices i d)) ≡ false
+      → next ≡ best_of problem best (listed isa problem choices left (get_or choices i d ∷ done))
+      → best_of problem best (flat_map (under left done) (drop i choices)) ≡ total → best_of problem next (flat_map (under left done) (drop (i + 1) choices)) ≡ total
+  step-taken left done i d best next total within kept offered is =
+      ap (λ f. best_of problem f (flat_map (under left done) (drop (i + 1) choices))) offered
+      ∙ sym (best_of-append problem best (listed isa problem choices left (get_or choices i d ∷ done)) (flat_map (under left done) (drop (i + 1) choices)))
+      ∙ sym (ap (λ xs. best_of problem best (flat_map (under left done) xs)) (drop_more choices i d within)
+      ∙ ap (λ b. best_of problem best ((if b then [] else listed isa problem choices left (get_or choices i d ∷ done)) ++ flat_map (under left done) (drop (i + 1) choices))) kept)
+      ∙ is
+
+  -- where no choice is left, all were offered
+  pub step-end : (left : ℕ) (done : List Choice) (i : ℕ) (best total : Found) → length choices ≤ i → best_of problem best (flat_map (under left done) (drop i choices)) ≡ total → best ≡ total
+  unfolding best_of
+  step-end left done i best total past is =
+      sym (ap (λ xs. best_of problem best (flat_map (under left done) xs)) (drop_all i choices past)) ∙ is
 
   -- what is listed under a choice is so where that breaks no rule
   from-under : (left : ℕ) (done : List Choice) (c : Choice) (x : List Choice) → Has x (under left done c) → (first_broken isa problem done c ≡ None) × Has x (listed isa problem choices left (c ∷ done))
@@ -161,17 +195,87 @@ module _ (isa : Isa) (problem : Problem) (choices : List Choice) where
     pub legal : IsLegalFrom isa problem done rest
     pub full : is_full problem.order x ≡ true
 
+choices-next : (problem : Problem) (item unit : ℕ)
+    → choices_below problem item (unit + 1) ≡ choices_below problem item unit ++ filter (keeps_l6 problem) (own_choice problem item unit ∷ [])
+unfolding choices_below numbers_below
+choices-next problem item unit =
+    ap (λ n. choices_below problem item n) (add-one unit)
+    ∙ ap (filter (keeps_l6 problem)) (map-append (own_choice problem item) (numbers_below unit) (unit ∷ []))
+    ∙ filter-append (keeps_l6 problem) (map (own_choice problem item) (numbers_below unit)) (own_choice problem item unit ∷ [])
+
+-- one more unit, of the class or not
+pub choices-more : (problem : Problem) (item unit : ℕ) → keeps_l6 problem (own_choice problem item unit) ≡ true
+    → choices_below problem item (unit + 1) ≡ choices_below problem item unit ++ own_choice problem item unit ∷ []
+unfolding choices_below
+choices-more problem item unit is =
+    choices-next problem item unit
+    ∙ ap (λ b. choices_below problem item unit ++ cond b (own_choice problem item unit ∷ []) []) is
+
+pub choices-same : (problem : Problem) (item unit : ℕ) → keeps_l6 problem (own_choice problem item unit) ≡ false
+    → choices_below problem item (unit + 1) ≡ choices_below problem item unit
+unfolding choices_below
+choices-same problem item unit is =
+    choices-next problem item unit
+    ∙ ap (λ b. choices_below problem item unit ++ cond b (own_choice problem item unit ∷ []) []) is
+    ∙ append-nil (choices_below problem item unit)
+
+-- none yet
+pub choices-none : (problem : Problem) (item : ℕ) → choices_below problem item 0 ≡ []
+unfolding choices_below numbers_below
+choices-none problem item = refl
+
+pub choices-all : (problem : Problem) (item : ℕ) → choices_below problem item 16 ≡ own_choices problem item
+unfolding own_choices
+choices-all problem item = refl
+
+-- the choices of one more item
+pub items-more : (problem : Problem) (count : ℕ) → flat_map (own_choices problem) (numbers_below (count + 1)) ≡ flat_map (own_choices problem) (numbers_below count) ++ own_choices problem count
+unfolding numbers_below
+items-more problem count =
+    ap (λ n. flat_map (own_choices problem) (numbers_below n)) (add-one count)
+    ∙ flat_map-append (own_choices problem) (numbers_below count) (count ∷ [])
+    ∙ ap (λ xs. flat_map (own_choices problem) (numbers_below count) ++ xs) (append-nil (own_choices problem count))
+
+pub items-none : (problem : Problem) → flat_map (own_choices problem) (numbers_below 0) ≡ []
+unfolding numbers_below
+items-none problem = refl
+
+pub items-all : (problem : Problem) (count : ℕ) → count ≡ length problem.items → flat_map (own_choices problem) (numbers_below count) ≡ all_choices problem
+unfolding all_choices
+items-all problem count is = ap (λ n. flat_map (own_choices problem) (numbers_below n)) is
+
+-- a full schedule is offered alone
+pub offered-full : (isa : Isa) (problem : Problem) (choices : List Choice) (left : ℕ) (items given : List Choice) (best : Found) → given ≡ items → is_full problem.order (reverse items) ≡ true
+    → better problem best given ≡ best_of problem best (listed isa problem choices left (reverse items))
+unfolding best_of
+offered-full isa problem choices left items given best is full =
+    ap (better problem best) (is ∙ sym (reverse-reverse items))
+    ∙ ap (best_of problem best) (sym (listed-full isa problem choices left (reverse items) full))
+
+pub offered-none : (problem : Problem) (best : Found) → best ≡ best_of problem best []
+unfolding best_of
+offered-none problem best = refl
+
 module _ (isa : Isa) (problem : Problem) (listable : IsListable isa problem) where
+  -- all choices are known
+  pub all-known : list_all (is_known problem) (all_choices problem) ≡ true
+  unfolding all_choices own_choices choices_below
+  all-known = has-all (is_known problem) (all_choices problem) (λ c h.
+      let p = from-flat_map (own_choices problem) c (numbers_below (length problem.items)) h in
+      let u = from-map (own_choice problem p.0) c (numbers_below 16) (from-filter (keeps_l6 problem) c (map (own_choice problem p.0) (numbers_below 16)) p.2) in
+      subst (λ x. is_known problem x ≡ true) u.2
+      (and_from (nat_lt p.0 (length problem.items)) (nat_lt u.0 16) (lt-ltb p.0 (length problem.items) (from-numbers (length problem.items) p.0 p.1)) (lt-ltb u.0 16 (from-numbers 16 u.0 u.1))))
+
   -- all choices make a list of what is listed
   abbrev all : ℕ → List Choice → List (List Choice)
   all left done = listed isa problem (all_choices problem) left done
 
   -- a choice of the list that breaks no rule is legal
   listed-legal : (done : List Choice) (c : Choice) → Has c (all_choices problem) → first_broken isa problem done c ≡ None → IsLegalNext isa problem done c
-  unfolding all_choices own_choices
+  unfolding all_choices own_choices choices_below
   listed-legal done c h none =
       let p = from-flat_map (own_choices problem) c (numbers_below (length problem.items)) h in
-      let u = from-map (own_choice problem p.0) c (numbers_below 16) p.2 in
+      let u = from-map (own_choice problem p.0) c (numbers_below 16) (from-filter (keeps_l6 problem) c (map (own_choice problem p.0) (numbers_below 16)) p.2) in
       record { of = subst (IsOf problem) u.2 (own-of isa problem listable p.0 u.0 (from-numbers (length problem.items) p.0 p.1)); rules = none }
 
   goes-full : (done x : List Choice) → is_full problem.order done ≡ true → Has x (reverse done ∷ []) → GoesOn isa problem (all_choices problem) done x
@@ -233,7 +337,7 @@ module _ (isa : Isa) (problem : Problem) (listable : IsListable isa problem) whe
   module _ (fit : (p : ℕ) → p < length problem.items → (row_of problem.costs p).units < 2 ^ 16) where
     -- a legal choice is one of the list
     has-choice : (done : List Choice) (c : Choice) → IsLegalNext isa problem done c → Has c (all_choices problem)
-    unfolding all_choices own_choices
+    unfolding all_choices own_choices choices_below
     has-choice done c legal =
         let known : c.item < length problem.items = known-item isa problem listable c.item legal.of.known in
         let unit : c.unit < 16 = ⊎_elim
@@ -242,7 +346,8 @@ module _ (isa : Isa) (problem : Problem) (listable : IsListable isa problem) whe
         (cases_lt c.unit 16) in
         subst (λ x. Has x (all_choices problem)) (sym (forced-choice isa problem listable done c legal))
         (has-flat_map (own_choices problem) (own_choice problem c.item c.unit) c.item (numbers_below (length problem.items)) (has-numbers (length problem.items) c.item known)
-        (has-map (own_choice problem c.item) c.unit (numbers_below 16) (has-numbers 16 c.unit unit)))
+        (has-filter (keeps_l6 problem) (own_choice problem c.item c.unit) (map (own_choice problem c.item) (numbers_below 16))
+        (has-map (own_choice problem c.item) c.unit (numbers_below 16) (has-numbers 16 c.unit unit)) (keeps_rules isa problem done c legal.rules).l6))
 
     -- Each full legal schedule is listed.
     has-listed : (left : ℕ) (done rest : List Choice) → IsLegalFrom isa problem done rest → is_full problem.order (after done rest) ≡ true → unplaced problem.order done ≤ left

@@ -1,7 +1,7 @@
 -- Elements of lists, and lists in which each element stands in a relation to those behind it.
-use Rattle.std.proofs.Common.{◌≡◌, ℕ, zero, suc, ◌+◌, ◌<◌, ◌≤◌, ◌⊎◌, Bool, true, false, ◌&&◌, List, [], ◌∷◌, ◌++◌, map, length, inl, inr, ⊎_elim, refl, sym, ap, ◌∙◌, subst, length-append, add-one, arith}
+use Rattle.std.proofs.Common.{◌≡◌, ℕ, zero, suc, ◌+◌, ◌<◌, ◌≤◌, ◌⊎◌, Bool, true, false, cond, ◌&&◌, List, [], ◌∷◌, ◌++◌, map, filter, length, inl, inr, ⊎_elim, refl, sym, ap, ◌∙◌, subst, length-append, add-one, arith}
 use Rattle.std.specs.List.{list_all, flat_map}
-use Rattle.std.proofs.lemmas.Bool.{and_parts, cases_lt}
+use Rattle.std.proofs.lemmas.Bool.{and_parts, and_from, cases_lt, cond-true}
 use Rattle.sl_model.specs.Legal.{numbers_below}
 
 -- an element is one of a list
@@ -37,12 +37,47 @@ module _ {X : Type 0} where
       let parts = and_parts (p y) (list_all p xs) all in
       ⊎_elim (λ (here : y ≡ x). subst (λ z. p z ≡ true) here parts.0) (λ (there : Has x xs). passes p x xs there parts.1) h
 
+  -- where each passes, all do
+  pub has-all : (p : X → Bool) (xs : List X) → ((x : X) → Has x xs → p x ≡ true) → list_all p xs ≡ true
+  has-all p [] each = refl
+  has-all p (x ∷ xs) each = and_from (p x) (list_all p xs) (each x (inl refl)) (has-all p xs (λ y h. each y (inr h)))
+
   pub ordered-append : (R : X → X → Type 0) (xs ys : List X) → Ordered R xs → Ordered R ys → ((x y : X) → Has x xs → Has y ys → R x y) → Ordered R (xs ++ ys)
   ordered-append R [] ys left right between = right
   ordered-append R (x ∷ xs) ys left right between = (
     λ y h. ⊎_elim (λ (before : Has y xs). left.0 y before) (λ (after : Has y ys). between x y (inl refl) after) (has-cases y xs ys h),
     ordered-append R xs ys left.1 right (λ a b ha hb. between a b (inr ha) hb),
   )
+
+  -- what passes a test stays, in the same order
+  pub has-filter : (p : X → Bool) (x : X) (xs : List X) → Has x xs → p x ≡ true → Has x (filter p xs)
+  has-filter p x [] h ok = absurd h
+  has-filter p x (y ∷ xs) h ok = ⊎_elim
+      (λ (here : y ≡ x).
+      let kept : p y ≡ true = ap p here ∙ ok in
+      subst (Has x) (sym (cond-true (p y) (y ∷ filter p xs) (filter p xs) kept)) (inl here))
+      (λ (there : Has x xs). later (p y) y (filter p xs) (has-filter p x xs there ok))
+      h
+    where
+      later : (b : Bool) (y : X) (ys : List X) → Has x ys → Has x (cond b (y ∷ ys) ys)
+      later true y ys h = inr h
+      later false y ys h = h
+
+  pub from-filter : (p : X → Bool) (x : X) (xs : List X) → Has x (filter p xs) → Has x xs
+  from-filter p x [] h = absurd h
+  from-filter p x (y ∷ xs) h = ⊎_elim (λ (here : y ≡ x). inl here) (λ (there : Has x (filter p xs)). inr (from-filter p x xs there)) (by (p y) y (filter p xs) h)
+    where
+      by : (b : Bool) (y : X) (ys : List X) → Has x (cond b (y ∷ ys) ys) → (y ≡ x) ⊎ Has x ys
+      by true y ys h = h
+      by false y ys h = inr h
+
+  pub ordered-filter : (R : X → X → Type 0) (p : X → Bool) (xs : List X) → Ordered R xs → Ordered R (filter p xs)
+  ordered-filter R p [] ordered = tt
+  ordered-filter R p (y ∷ xs) ordered = by (p y) (λ z h. ordered.0 z (from-filter p z xs h)) (ordered-filter R p xs ordered.1)
+    where
+      by : (b : Bool) → ((z : X) → Has z (filter p xs) → R y z) → Ordered R (filter p xs) → Ordered R (cond b (y ∷ filter p xs) (filter p xs))
+      by true before rest = (before, rest)
+      by false before rest = rest
 
 module _ {X Y : Type 0} where
   pub has-flat_map : (g : X → List Y) (y : Y) (x : X) (xs : List X) → Has x xs → Has y (g x) → Has y (flat_map g xs)

@@ -1,5 +1,5 @@
 -- Problems whose schedules can be listed, and the list.
-use Rattle.std.specs.Prelude.{ℕ, ◌≡◌, ◌≤◌, Bool, true, ◌&&◌, nat_lt, nat_le, zero, suc, map, List, [], ◌∷◌, reverse, length, Option, None, Some, is_some, if◌then◌else◌}
+use Rattle.std.specs.Prelude.{ℕ, ◌≡◌, ◌≤◌, Bool, true, ◌&&◌, nat_lt, nat_le, zero, suc, map, filter, List, [], ◌∷◌, reverse, length, Option, None, Some, is_some, if◌then◌else◌}
 use Rattle.std.specs.List.{list_all, flat_map, enumerate_from}
 use Rattle.sl_model.specs.declared.register.Reg.{Reg}
 use Rattle.sl_model.specs.declared.schedule.Choice.{Choice}
@@ -8,7 +8,7 @@ use Rattle.sl_model.specs.declared.schedule.Source.TheVariants.{Entry, Item}
 use Rattle.sl_model.specs.Source.{outputs, item_at}
 use Rattle.sl_model.specs.Isa.{Isa}
 use Rattle.sl_model.specs.Body.{is_full}
-use Rattle.sl_model.specs.Legal.{Problem, is_final_in, first_broken, numbers_below}
+use Rattle.sl_model.specs.Legal.{Problem, is_final_in, first_broken, keeps_l6, numbers_below}
 use Rattle.sl_model.specs.Space.{stalls_of}
 use Rattle.legal_space.specs.Testable.{IsTestable}
 
@@ -43,11 +43,15 @@ is_known problem c = nat_lt c.item (length problem.items) && nat_lt c.unit 16
 abbrev pub own_choice : Problem → ℕ → ℕ → Choice
 own_choice problem item unit = record { item = item; unit = unit; outs = (item_at problem.items item).outs }
 
--- an item on each unit
-unfoldable pub own_choices : Problem → ℕ → List Choice
-own_choices problem item = map (own_choice problem item) (numbers_below 16)
+-- an item on each unit of its class, below a number
+unfoldable pub choices_below : Problem → ℕ → ℕ → List Choice
+choices_below problem item units = filter (keeps_l6 problem) (map (own_choice problem item) (numbers_below units))
 
--- each item on each unit
+-- an item on each unit of its class
+unfoldable pub own_choices : Problem → ℕ → List Choice
+own_choices problem item = choices_below problem item 16
+
+-- each item on each unit of its class
 unfoldable pub all_choices : Problem → List Choice
 all_choices problem = flat_map (own_choices problem) (numbers_below (length problem.items))
 

@@ -12,7 +12,7 @@ use crate::best::Best;
 use crate::operands::item_of;
 use crate::placed::is_placed;
 use crate::problem::Problem;
-use crate::test::first_broken;
+use crate::test::{first_broken, has_unit};
 use sl_base::NoMemory;
 use sl_isa::Arch;
 use sl_model::schedule::Choice;
@@ -91,7 +91,7 @@ fn is_full(problem: &Problem, done: &[Choice]) -> bool
     problem.order().iter().all(|item| is_placed(done, *item))
 }
 
-// Each item on each unit, with its own registers, items and units in ascending order.
+// Each item on each of its units, with its own registers, items and units in ascending order.
 fn all_choices(alloc: Global, problem: &Problem) -> Result<Vec<Choice>, NoMemory>
     requires few { length problem.now.items ≤ 8 }
     requires rows { length problem.now.costs.rows ≡ length problem.now.items }
@@ -100,19 +100,23 @@ fn all_choices(alloc: Global, problem: &Problem) -> Result<Vec<Choice>, NoMemory
 {
     let mut choices = Vec::new(alloc);
     for item in 0..problem.len() as u16 {
-        let _units = problem.costs().units(item);
-        push_choices(&mut choices, problem, item)?;
+        let units = problem.costs().units(item);
+        push_choices(&mut choices, problem, item, units)?;
     }
     Ok(choices)
 }
 
-// Each unit for an item.
-fn push_choices(choices: &mut Vec<Choice>, problem: &Problem, item: u16) -> Result<(), NoMemory>
-    requires { item < length problem.now.items }
+// An item on each of its units.
+fn push_choices(choices: &mut Vec<Choice>, problem: &Problem, item: u16, units: u16) -> Result<(), NoMemory>
+    requires item { item < length problem.now.items }
+    requires units { units ≡ (row_of problem.now.costs item).units }
     ensures { OnOk result (choices.new.items ≡ choices.old.items ++ own_choices problem.now item) }
 {
     let outs = item_of(problem, item).outs;
     for unit in 0..UNITS {
+        if !has_unit(units, unit) {
+            continue;
+        }
         if choices.push(Choice { item, unit, outs }).is_err() {
             return Err(NoMemory);
         }

@@ -31,6 +31,7 @@ pub fn stalls_of(alloc: Global, problem: &Problem, schedule: &[Choice]) -> Resul
     for (place, choice) in schedule.iter().enumerate() {
         let sources = problem.sources_of(choice.item);
         let ready = ready_for(costs, &schedule[..place], &cycles, choice.item, sources);
+        let _busy = costs.busy(choice.item);
         let cycle = issue.push(costs, choice.item, choice.unit, ready);
         cycles.push_reserved(cycle);
     }
