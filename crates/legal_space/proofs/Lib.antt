@@ -1,2 +1,11 @@
+pub mod CycleLemmas
+pub mod Forced
+pub mod FoundLemmas
+pub mod Keys
+pub mod ListingLemmas
+pub mod LoopSteps
+pub mod Members
+pub mod PlacedLemmas
 pub mod StraightLemmas
 pub mod TimesLemmas
+pub mod Units

@@ -1,2 +1,4 @@
 pub mod Above
+pub mod Listing
+pub mod Testable
 pub mod Timed

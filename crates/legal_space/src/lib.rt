@@ -1,14 +1,25 @@
 //! Problems of scheduling: items, what they read, and what a schedule of them has to keep.
 #![tactic(auto)]
 
+pub use listing::best_schedule;
 pub use problem::Problem;
 pub use sl_model::problem::Rule;
 pub use sl_model::schedule::{Choice, Source};
 pub use straight::written;
+pub use test::first_broken;
 pub use times::{Times, times_of};
 
+mod accesses;
+mod best;
+mod listing;
+mod operands;
+mod outputs;
+mod placed;
 mod problem;
+mod registers;
 pub mod sets;
 pub mod sources;
+mod stalls;
 mod straight;
+mod test;
 mod times;
