@@ -1,9 +1,10 @@
 //! Registers and sets of registers.
-ghost use Rattle.std.specs.Prelude.{◌≡◌, ℕ, ◌<◌, true, nat_lt};
+ghost use Rattle.std.specs.Prelude.{◌≡◌};
 ghost use Rattle.sl_model.specs.Register.{same_reg, same_bool};
-ghost use Rattle.sl_model.specs.RegSets.{bit_of, bank_size, set_has};
+ghost use Rattle.sl_model.specs.RegSets.{set_has};
 ghost use Rattle.sl_model.specs.Legal.{is_flags};
 
+use crate::sets::{bank_size, bit_of};
 use sl_model::register::{Bank, Reg, RegSet};
 
 /// Are these two names of one register?
@@ -43,28 +44,4 @@ pub fn set_has(set: RegSet, reg: Reg) -> bool
         return false;
     }
     (set.bits >> bit_of(reg.bank, reg.number)) % 2 == 1
-}
-
-// How many registers a bank has room for.
-fn bank_size(bank: Bank) -> u16
-    ensures { result ≡ bank_size bank }
-{
-    match bank {
-        Bank::General | Bank::Vector => 32,
-        Bank::Flags | Bank::Stack => 1,
-    }
-}
-
-// The bit of a register in a set.
-fn bit_of(bank: Bank, number: u16) -> u32
-    requires { number < bank_size bank }
-    ensures bit { result ≡ bit_of bank number }
-    ensures small { result < 128 }
-{
-    match bank {
-        Bank::General => u32::from(number),
-        Bank::Vector => 32 + u32::from(number),
-        Bank::Flags => 64,
-        Bank::Stack => 65,
-    }
 }

@@ -33,7 +33,7 @@ fn with_reg(reg: Reg, set: RegSet) -> RegSet
 }
 
 /// How many registers a bank has room for.
-fn bank_size(bank: Bank) -> u16
+pub fn bank_size(bank: Bank) -> u16
     ensures { result ≡ bank_size bank }
 {
     match bank {
@@ -42,8 +42,8 @@ fn bank_size(bank: Bank) -> u16
     }
 }
 
-/// The bit of a register in a set.
-fn bit_of(bank: Bank, number: u16) -> u32
+/// The bit in a set of a register of a bank.
+pub fn bit_of(bank: Bank, number: u16) -> u32
     requires { number < bank_size bank }
     ensures bit { result ≡ bit_of bank number }
     ensures small { result < 128 }
