@@ -41,17 +41,23 @@ outcome-fewer problem next rest was now fewer ordered o =
       kept = inr (⊎_elim
           (λ (same : now ≡ record { limit = stalls_of problem next; schedule = next }).
           let schedule : now.schedule ≡ next = ap (λ f. f.schedule) same in
-          let limit : now.limit ≡ stalls_of problem next = ap (λ f. f.limit) same in
-          (inl (sym schedule), ap (stalls_of problem) schedule ∙ sym limit, omega arith,
-          λ x h e. subst (λ s. comes_before x s ≡ false) (sym schedule)
-          (⊎_elim (λ (here : next ≡ x). subst (λ y. comes_before y next ≡ false) here (before-itself next)) (λ (there : Has x rest). ordered x there) h)))
+          let limit : now.limit ≡ stalls_of problem next = ap (λ f. f.limit) same in (
+            inl (sym schedule),
+            ap (stalls_of problem) schedule ∙ sym limit,
+            omega arith,
+            λ x h e. subst (λ s. comes_before x s ≡ false) (sym schedule)
+                (⊎_elim (λ (here : next ≡ x). subst (λ y. comes_before y next ≡ false) here (before-itself next)) (λ (there : Has x rest). ordered x there) h),
+          ))
           (λ (new : Has now.schedule rest × (stalls_of problem now.schedule ≡ now.limit) × (now.limit < stalls_of problem next)
           × ((x : List Choice) → Has x rest → stalls_of problem x ≡ now.limit → comes_before x now.schedule ≡ false)).
-          let less : now.limit < stalls_of problem next = new.2 in
-          (inr new.0, new.1, omega arith,
-          λ x h e. ⊎_elim
-          (λ (here : next ≡ x). let same : stalls_of problem next ≡ stalls_of problem x = ap (stalls_of problem) here in absurd (omega arith))
-          (λ (there : Has x rest). new.3 x there e) h))
+          let less : now.limit < stalls_of problem next = new.2 in (
+            inr new.0,
+            new.1,
+            omega arith,
+            λ x h e. ⊎_elim
+                (λ (here : next ≡ x). let same : stalls_of problem next ≡ stalls_of problem x = ap (stalls_of problem) here in absurd (omega arith))
+                (λ (there : Has x rest). new.3 x there e) h,
+          ))
           o.kept);
     }
 
@@ -67,10 +73,14 @@ outcome-not problem next rest was now more o =
           (λ (new : Has now.schedule rest × (stalls_of problem now.schedule ≡ now.limit) × (now.limit < was.limit)
           × ((x : List Choice) → Has x rest → stalls_of problem x ≡ now.limit → comes_before x now.schedule ≡ false)).
           let less : now.limit < was.limit = new.2 in
-          inr (inr new.0, new.1, less,
-          λ x h e. ⊎_elim
-          (λ (here : next ≡ x). let same : stalls_of problem next ≡ stalls_of problem x = ap (stalls_of problem) here in absurd (omega arith))
-          (λ (there : Has x rest). new.3 x there e) h))
+          inr (
+            inr new.0,
+            new.1,
+            less,
+            λ x h e. ⊎_elim
+                (λ (here : next ≡ x). let same : stalls_of problem next ≡ stalls_of problem x = ap (stalls_of problem) here in absurd (omega arith))
+                (λ (there : Has x rest). new.3 x there e) h,
+          ))
           o.kept;
     }
 

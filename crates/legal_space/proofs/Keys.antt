@@ -66,11 +66,11 @@ second-above k m n xs ys less = ap (λ o. ordering_then o (slice_cmp nat_cmp (m 
 
 -- choices of one item are before one another by their units, and those of other items by these
 unit-before : (problem : Problem) (item u v : ℕ) → u < v → Before (own_choice problem item u) (own_choice problem item v)
-unit-before problem item u v less = 
+unit-before problem item u v less =
     second-above item v u (map (λ r. bit_of r.bank r.number) (chosen (own_choice problem item v))) (map (λ r. bit_of r.bank r.number) (chosen (own_choice problem item u))) less
 
 item-before : (problem : Problem) (p q u v : ℕ) → p < q → Before (own_choice problem p u) (own_choice problem q v)
-item-before problem p q u v less = 
+item-before problem p q u v less =
     first-above q p (v ∷ map (λ r. bit_of r.bank r.number) (chosen (own_choice problem q v))) (u ∷ map (λ r. bit_of r.bank r.number) (chosen (own_choice problem p u))) less
 
 -- the choices are listed by their keys

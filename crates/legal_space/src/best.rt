@@ -40,7 +40,12 @@ impl Best {
 
     /// One more schedule, kept if its stalls are below the limit.
     #[tactic(auto, unfolding(crate::specs::Listing::better))]
-    pub fn offer(&mut self, alloc: Global, problem: &Problem, schedule: &[Choice]) -> Result<(), NoMemory>
+    pub fn offer(
+        &mut self,
+        alloc: Global,
+        problem: &Problem,
+        schedule: &[Choice],
+    ) -> Result<(), NoMemory>
         requires few { length schedule.now ≤ 8 }
         requires rows { length problem.now.costs.rows ≡ length problem.now.items }
         requires sources { list_all (are_known_sources (length problem.now.items)) problem.now.sources ≡ true }

@@ -40,7 +40,15 @@ pub fn best_schedule<A: Arch>(
         return Err(NoMemory);
     };
     let mut best = Best::none(alloc, most);
-    extend(arch, alloc, problem, &choices, problem.len(), &mut done, &mut best)?;
+    extend(
+        arch,
+        alloc,
+        problem,
+        &choices,
+        problem.len(),
+        &mut done,
+        &mut best,
+    )?;
     if best.limit > u64::from(most) {
         return Ok(None);
     }
@@ -107,7 +115,12 @@ fn all_choices(alloc: Global, problem: &Problem) -> Result<Vec<Choice>, NoMemory
 }
 
 // An item on each of its units.
-fn push_choices(choices: &mut Vec<Choice>, problem: &Problem, item: u16, units: u16) -> Result<(), NoMemory>
+fn push_choices(
+    choices: &mut Vec<Choice>,
+    problem: &Problem,
+    item: u16,
+    units: u16,
+) -> Result<(), NoMemory>
     requires item { item < length problem.now.items }
     requires units { units ≡ (row_of problem.now.costs item).units }
     ensures { OnOk result (choices.new.items ≡ choices.old.items ++ own_choices problem.now item) }

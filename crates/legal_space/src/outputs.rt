@@ -96,10 +96,7 @@ fn suits_readers<A: Arch>(arch: &A, problem: &Problem, item: u16, place: usize, 
 fn suits_operands(sources: &[Source], sets: &[RegSet], item: u16, place: usize, reg: Reg) -> bool
     ensures { result ≡ list_all (λ x. not (same_source x.0 (Item item place)) || set_has x.1 reg) (zip sources.now sets.now) }
 {
-    sources
-        .iter()
-        .zip(sets)
-        .all(|(source, set)| suits_operand(*source, *set, item, place, reg))
+    sources.iter().zip(sets).all(|(source, set)| suits_operand(*source, *set, item, place, reg))
 }
 
 // Is a register of the class of an operand, if that reads an output?
@@ -116,10 +113,7 @@ fn suits_operand(source: Source, set: RegSet, item: u16, place: usize, reg: Reg)
 fn suits_finals(problem: &Problem, item: u16, place: usize, reg: Reg) -> bool
     ensures { result ≡ suits_finals problem.now (Item item place) reg }
 {
-    problem
-        .finals()
-        .iter()
-        .all(|(last, value)| suits_final(*last, *value, item, place, reg))
+    problem.finals().iter().all(|(last, value)| suits_final(*last, *value, item, place, reg))
 }
 
 // Is a register the one in which a value is final, if it is the output?

@@ -47,7 +47,7 @@ classes isa problem = flat_map (λ i. (isa.info i.form).in_sets ++ (isa.info i.f
 abbrev pub same_kind : Isa → Problem → Reg → Reg → Bool
 same_kind isa problem a b =
     (bank_number a.bank == bank_number b.bank && (not (is_final problem a) && not (is_final problem b)))
-        && list_all (λ set. same_bool (set_has set a) (set_has set b)) (classes isa problem)
+    && list_all (λ set. same_bool (set_has set a) (set_has set b)) (classes isa problem)
 
 -- Is an output of an item final somewhere?
 abbrev pub is_final_output : Problem → ℕ → ℕ → Bool
@@ -79,7 +79,7 @@ is_taken isa problem c place r =
 abbrev pub could_take : Isa → Problem → List Choice → Choice → ℕ → Reg → Bool
 could_take isa problem done c place r =
     list_all (λ x. not (x.0 == place) || suits_output isa problem c.item (x.0, ((r, x.1.0.1), x.1.1))) (output_classes isa problem c)
-        && may_overwrite problem done c.item r
+    && may_overwrite problem done c.item r
 
 -- A choice is reduced: each output that is free to choose is in the least register of its kind that it could take, other
 -- than those that are taken.

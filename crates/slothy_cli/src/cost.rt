@@ -8,8 +8,8 @@ ghost use Rattle.sl_model.specs.Cycles.{Issued, ready_at, ready_from, cycles_of,
 ghost use Rattle.legal_space.specs.Above.{IsAbove, HasCycles};
 ghost use Rattle.slothy_cli.specs.CostText.{plain_row, plain_costs, own_times, cost_line, cost_lines, cost_head, cost_text};
 
-use legal_space::sources::source_of;
 use issue_cost::{CostRow, Costs, Issue, NoMemory};
+use legal_space::sources::source_of;
 use sl_isa::three_forms::Spelled;
 use sl_model::instruction::Instr;
 use sl_model::register::Reg;

@@ -1,6 +1,5 @@
 use Rattle.std.proofs.Common.{◌≡◌, ℕ, ◌+◌, ◌*◌, ◌<◌, ◌≤◌, ◌++◌, [], ◌∷◌, List, length, reverse, take, drop, get_or, sym, ap, ◌∙◌, subst, refl, rules, arith}
 use Rattle.std.proofs.lemmas.List.{length_push, length-take-le}
-
 use Rattle.sl_model.specs.declared.schedule.Choice.{Choice}
 use Rattle.sl_model.specs.Cycles.{CostTable, Issued, issued, issued_from, cycles_of, timed, timed_from, ready_from, row_of, stalls}
 use Rattle.sl_model.specs.Legal.{sources_in}
