@@ -53,7 +53,7 @@ unfolding is_placed
 after-none order rest = λ i. list_all (λ p. after-placed [] rest p i) order
 
 -- how many items of an order aren't placed
-unplaced : List ℕ → List Choice → ℕ
+pub unplaced : List ℕ → List Choice → ℕ
 unplaced [] done = 0
 unplaced (p ∷ order) done = (if is_placed done p then 0 else 1) + unplaced order done
 
@@ -72,7 +72,7 @@ unplaced-none (p ∷ order) done none = ⊎_elim
     (cases_Bool (is_placed done p))
 
 -- there are no more unplaced items than items
-unplaced-bound : (order : List ℕ) (done : List Choice) → unplaced order done ≤ length order
+pub unplaced-bound : (order : List ℕ) (done : List Choice) → unplaced order done ≤ length order
 unfolding unplaced
 unplaced-bound [] done = omega arith
 unplaced-bound (p ∷ order) done = bound (is_placed done p) (unplaced order done) (length order) (unplaced-bound order done)
@@ -94,7 +94,7 @@ unplaced-more (p ∷ order) c done = bound (eqb c.item p) (is_placed done p) (un
     bound false false m n le = omega arith
 
 -- and one less, where its item stands in the order and wasn't placed
-unplaced-less : (order : List ℕ) (c : Choice) (done : List Choice) → stands_in c.item order ≡ true → is_placed done c.item ≡ false → unplaced order (c ∷ done) < unplaced order done
+pub unplaced-less : (order : List ℕ) (c : Choice) (done : List Choice) → stands_in c.item order ≡ true → is_placed done c.item ≡ false → unplaced order (c ∷ done) < unplaced order done
 unfolding unplaced is_placed stands_in
 unplaced-less [] c done stands fresh = absurd (true≢false (sym stands))
 unplaced-less (p ∷ order) c done stands fresh = ⊎_elim

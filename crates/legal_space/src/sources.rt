@@ -38,7 +38,7 @@ fn place_among(outputs: &[Option<Reg>], reg: Reg) -> Option<u8>
 }
 
 /// At which place, from 0 to 2, an instruction writes a register.
-fn place_of(instr: &Instr, reg: Reg) -> Option<u8>
+pub fn place_of(instr: &Instr, reg: Reg) -> Option<u8>
     ensures { result ≡ place_from 0 reg (outputs instr.now) }
 {
     place_among(&instr.outs, reg)

@@ -32,7 +32,7 @@ both : (a b : Bool) → (a && b) ≡ true → (a ≡ true) × (b ≡ true)
 both true b h = (refl, h)
 both false b h = absurd (true≢false (sym h))
 
-both_hold : (a b : Bool) → a ≡ true → b ≡ true → (a && b) ≡ true
+pub both_hold : (a b : Bool) → a ≡ true → b ≡ true → (a && b) ≡ true
 both_hold true b p q = q
 both_hold false b p q = absurd (true≢false (sym p))
 
@@ -179,7 +179,7 @@ few_lawful = record {
 }
 
 -- A counter is one of the x registers.
-counter_suits : (number : ℕ) → nat_lt number 31 ≡ true → suits_set (record { bank = General; symbolic = false; number = number }, x_registers) ≡ true
+pub counter_suits : (number : ℕ) → nat_lt number 31 ≡ true → suits_set (record { bank = General; symbolic = false; number = number }, x_registers) ≡ true
 unfolding set_has
 counter_suits number h = both_hold _ _ (ap (λ b. b == 1) (bit_at_ones 31 number (ltb-true _ _ h))) (wider number 31 32 (ltb-true _ _ h) (lit≤ tt))
 

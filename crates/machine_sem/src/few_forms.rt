@@ -1,4 +1,5 @@
-//! A small instruction set, which shows that what the laws of architectures ask for can be met.
+//! A small instruction set: the three forms that are read, and a few with numbers, accesses and flags, which show that what the
+//! laws of architectures ask for can be met.
 ghost use Rattle.std.specs.Prelude.{◌≡◌, ◌%◌, ◌^◌, ◌<◌, ◌∷◌, [], pos, slice_index};
 ghost use Rattle.sl_isa.specs.Arch.{padded_values};
 ghost use Rattle.sl_model.specs.Lawful.{IsValid};
@@ -21,8 +22,8 @@ enum Form {
     StoreHalf,
 }
 
-// The architecture of these forms.
-pub(crate) struct FewForms;
+/// The architecture of these forms.
+pub struct FewForms;
 
 // The form with a number.
 fn form_of(number: u16) -> Form

@@ -1,7 +1,7 @@
 //! Machine states, and what instructions do to them.
 #![tactic(auto)]
 
-mod few_forms;
+pub mod few_forms;
 pub mod run;
 pub mod state;
 

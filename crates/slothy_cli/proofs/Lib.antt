@@ -5,3 +5,13 @@ pub mod Causes
 pub mod Calls
 pub mod OwnTimes
 pub mod ReadyTimes
+pub mod PrintedLines
+pub mod PlainApplied
+pub mod LineNumbers
+pub mod PrintedText
+pub mod PlainItems
+pub mod PlainValid
+pub mod OptItems
+pub mod OptProblem
+pub mod OptChoices
+pub mod OptAnswer

@@ -1,14 +1,22 @@
 -- What the words of a command ask for.
-use Rattle.std.specs.Prelude.{ℕ, Bool, false, ◌+◌, ◌-◌, ◌*◌, ◌==◌, ◌&&◌, not, nat_eq, nat_le, List, [], ◌∷◌, drop, codes, Option, None, Some, if◌then◌else◌}
+use Rattle.std.specs.Prelude.{ℕ, Bool, true, false, ◌+◌, ◌-◌, ◌*◌, ◌==◌, ◌&&◌, not, nat_eq, nat_le, List, [], ◌∷◌, drop, codes, Option, None, Some, if◌then◌else◌}
 use Rattle.std.specs.List.{starts_with, list_all}
 use Rattle.std.specs.Option.{option_map}
 use Rattle.std.specs.Str.{bytes_eq}
 use Rattle.std.specs.Char.{is_ascii_digit}
+use Rattle.slothy_cli.specs.declared.command.Wants.{Wants}
+use Rattle.slothy_cli.specs.declared.command.Mode.{Mode}
+use Rattle.slothy_cli.specs.declared.command.Mode.TheVariants.{Cost, Opt}
 
--- `cost`: the file, and the latency of the one-wide core
-pub record CostCommand : Type 0 where
+-- what is to be done, the file, and the latency of the one-wide core
+pub record Command : Type 0 where
+  pub mode : Mode
   pub name : List ℕ
   pub latency : ℕ
+
+-- the mode that a word names
+abbrev pub mode_of : List ℕ → Option Mode
+mode_of word = if bytes_eq word (codes "cost") then Some Cost else (if bytes_eq word (codes "opt") then Some Opt else None)
 
 -- the number that decimal digits spell, behind the digits of another number
 abbrev pub digits_from : ℕ → List ℕ → ℕ
@@ -33,10 +41,18 @@ abbrev pub is_name : List ℕ → Bool
 is_name [] = false
 is_name (c ∷ name) = not (c == 45)
 
--- `cost NAME --core CORE`, behind the program's name; all other words are wrong use
-unfoldable pub command_of : List (List ℕ) → Option CostCommand
+-- the command of a mode, a name and a core, where both words are right
+abbrev pub command_from : List ℕ → Option Mode → Option ℕ → Option Command
+command_from name None latency = None
+command_from name (Some mode) latency = option_map (λ cycles. record { mode = mode; name = name; latency = cycles }) latency
+
+-- `cost NAME --core CORE` or `opt NAME --core CORE`, behind the program's name; all other words are wrong use
+unfoldable pub command_of : List (List ℕ) → Option Command
 command_of (program ∷ mode ∷ name ∷ option ∷ core ∷ []) =
-    if bytes_eq mode (codes "cost") && (is_name name && bytes_eq option (codes "--core"))
-    then option_map (λ latency. record { name = name; latency = latency }) (latency_of core)
-    else None
+    if is_name name && bytes_eq option (codes "--core") then command_from name (mode_of mode) (latency_of core) else None
 command_of words = None
+
+-- what the modes want of a region: `cost` at most 64 items; `opt` at most 8, which write each register once
+abbrev pub wants_of : Mode → Wants
+wants_of Cost = record { limit = 64; once = false }
+wants_of Opt = record { limit = 8; once = true }

@@ -9,8 +9,8 @@ use Rattle.slothy_cli.specs.declared.status.Status.{Status}
 use Rattle.slothy_cli.specs.declared.status.Status.TheVariants as statuses
 use Rattle.slothy_cli.specs.declared.status.Ending.{Ending}
 use Rattle.slothy_cli.specs.declared.status.Ending.TheVariants.{Done, Usage, Stopped, ReadFault, WriteFault, NoMemory}
-use Rattle.slothy_cli.specs.Command.{CostCommand, command_of}
-use Rattle.slothy_cli.specs.Outcome.{cost_outcome}
+use Rattle.slothy_cli.specs.Command.{Command, command_of}
+use Rattle.slothy_cli.specs.Outcome.{CommandAnswers}
 use Rattle.slothy_cli.specs.Messages.{stop_status, message_of}
 
 -- what is seen of the files over a call: how many calls on them had failed before and after it, and as it ends the
@@ -48,25 +48,26 @@ abbrev pub is_file_limit : Stop → Bool
 is_file_limit (stops.Refused line reason) = false
 is_file_limit (stops.TooLarge line quantities.File limit) = true
 is_file_limit (stops.TooLarge line quantities.Items limit) = false
+is_file_limit (stops.Infeasible most) = false
 
 -- There is a text for the bytes of the file.
-pub record HasText (known : Option (List ℕ)) (latency : ℕ) (text : List ℕ) : Type 0 where
+pub record HasText (c : Command) (known : Option (List ℕ)) (text : List ℕ) : Type 0 where
   pub bytes : List ℕ
   pub bytes_of_file : AreOf known bytes
-  pub outcome : cost_outcome latency bytes ≡ Ok text
+  pub answers : CommandAnswers c bytes (Ok text)
 
 -- There is no text for the bytes of the file.
-pub record HasStop (known : Option (List ℕ)) (latency : ℕ) (stop : Stop) : Type 0 where
+pub record HasStop (c : Command) (known : Option (List ℕ)) (stop : Stop) : Type 0 where
   pub bytes : List ℕ
   pub bytes_of_file : AreOf known bytes
-  pub outcome : cost_outcome latency bytes ≡ Err stop
+  pub answers : CommandAnswers c bytes (Err stop)
 
 -- why there is no text for a command and its file, whose bytes may be known
-abbrev pub HasCause : CostCommand → Option (List ℕ) → FilesRun → Ending → Type 0
+abbrev pub HasCause : Command → Option (List ℕ) → FilesRun → Ending → Type 0
 -- the file's bytes have none; of a file that is too long, more than the limit was read
 HasCause c known files (Stopped stop) =
-    MatchBool (is_file_limit stop) ((files.chosen ≡ c.name) × (1048576 < files.given) × IfSome known (λ bytes. cost_outcome c.latency bytes ≡ Err stop))
-    (HasStop known c.latency stop)
+    MatchBool (is_file_limit stop) ((files.chosen ≡ c.name) × (1048576 < files.given) × IfSome known (λ bytes. CommandAnswers c bytes (Err stop)))
+    (HasStop c known stop)
 -- a call on the files failed, and it was one on this file
 HasCause c known files ReadFault = HasRisen files.faults_before files.faults_after × (files.chosen ≡ c.name) × (files.broken ≡ true)
 -- want of memory has no cause
@@ -76,12 +77,12 @@ HasCause c known files Usage = ⊥
 HasCause c known files (WriteFault sent) = ⊥
 
 -- The ending of a command that isn't wrong has its cause, and says what the output took.
-abbrev pub Ends : CostCommand → Option (List ℕ) → FilesRun → SinkRun → Ending → Type 0
+abbrev pub Ends : Command → Option (List ℕ) → FilesRun → SinkRun → Ending → Type 0
 -- the text of the file's bytes was written whole
-Ends c known files out Done = (text : List ℕ) × HasText known c.latency text × (out.after ≡ append_known out.before text)
+Ends c known files out Done = (text : List ℕ) × HasText c known text × (out.after ≡ append_known out.before text)
 -- a call on the output failed, which had taken so many bytes of the text
 Ends c known files out (WriteFault sent) =
-    HasRisen out.faults_before out.faults_after × ((text : List ℕ) × HasText known c.latency text × (sent < length text) × (out.after ≡ append_known out.before (take sent text)))
+    HasRisen out.faults_before out.faults_after × ((text : List ℕ) × HasText c known text × (sent < length text) × (out.after ≡ append_known out.before (take sent text)))
 -- there is no text, and nothing was written
 Ends c known files out (Stopped stop) = HasCause c known files (Stopped stop) × TookNothing out
 Ends c known files out ReadFault = HasCause c known files ReadFault × TookNothing out
@@ -90,7 +91,7 @@ Ends c known files out NoMemory = HasCause c known files NoMemory × TookNothing
 Ends c known files out Usage = ⊥
 
 -- the name of the file that words give, if they are right
-abbrev pub name_of : Option CostCommand → List ℕ
+abbrev pub name_of : Option Command → List ℕ
 name_of None = []
 name_of (Some c) = c.name
 
@@ -101,11 +102,12 @@ pub record Call (words : List (List ℕ)) (holds : List ℕ → Option (List ℕ
   -- the error output took the ending's message
   pub message : TookFront err (message_of (name_of (command_of words)) ending)
 
--- Is this the status for a file whose bytes are known to have this outcome? Faults and want of memory come in between.
+-- Is this a status for a file whose bytes are known to have this answer? Faults and want of memory come in between.
 abbrev pub IsStatusOf : Result (List ℕ) Stop → Status → Type 0
 IsStatusOf (Ok text) statuses.Done = Unit {0}
 IsStatusOf (Err stop) statuses.Done = ⊥
-IsStatusOf outcome statuses.Infeasible = ⊥
+IsStatusOf (Ok text) statuses.Infeasible = ⊥
+IsStatusOf (Err stop) statuses.Infeasible = stop_status stop ≡ statuses.Infeasible
 IsStatusOf outcome statuses.Usage = ⊥
 IsStatusOf (Ok text) statuses.Refused = ⊥
 IsStatusOf (Err stop) statuses.Refused = stop_status stop ≡ statuses.Refused

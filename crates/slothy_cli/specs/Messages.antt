@@ -30,6 +30,7 @@ code_of statuses.TurnsSpent = 10
 abbrev pub stop_status : Stop → Status
 stop_status (stops.Refused line reason) = statuses.Refused
 stop_status (stops.TooLarge line quantity limit) = statuses.TooLarge
+stop_status (stops.Infeasible most) = statuses.Infeasible
 
 -- the status of an ending
 abbrev pub status_of : Ending → Status
@@ -57,6 +58,7 @@ stop_message name (stops.Refused line reason) =
     joined (codes "slothy: " ∷ name ∷ codes ":" ∷ decimal line ∷ codes ": refused: " ∷ reason_text reason ∷ codes "\n" ∷ [])
 stop_message name (stops.TooLarge line quantity limit) =
     joined (codes "slothy: " ∷ name ∷ codes ":" ∷ decimal line ∷ codes ": too large: " ∷ quantity_text quantity ∷ codes " limit=" ∷ decimal limit ∷ codes "\n" ∷ [])
+stop_message name (stops.Infeasible most) = joined (codes "slothy: infeasible up to " ∷ decimal most ∷ codes " stalls\n" ∷ [])
 
 -- the line on standard error of an ending, where the file has this name; there is none where all went well
 unfoldable pub message_of : List ℕ → Ending → List ℕ

@@ -1,6 +1,18 @@
--- What `cost` answers to the bytes of its file: a text, or the first reason why there is none.
-use Rattle.std.specs.Prelude.{ℕ, zero, suc, Bool, ◌+◌, ◌-◌, ◌||◌, nat_lt, List, [], ◌∷◌, length, codes, Option, None, Some, Result, Ok, Err, if◌then◌else◌}
+-- What a command answers to the bytes of its file: a text, or the reason why there is none.
+use Rattle.std.specs.Prelude.{ℕ, Bool, ◌≡◌, ◌+◌, ◌&&◌, ◌||◌, not, nat_lt, List, [], ◌∷◌, ◌++◌, length, MatchResult, is_some, codes, Option, None, Some, Result, Ok, Err, if◌then◌else◌}
+use Rattle.std.specs.List.{list_any}
 use Rattle.sl_model.specs.declared.instruction.Instr.{Instr}
+use Rattle.sl_model.specs.declared.schedule.Choice.{Choice}
+use Rattle.sl_model.specs.declared.register.Reg.{Reg}
+use Rattle.sl_model.specs.Source.{outputs, place_from}
+use Rattle.sl_model.specs.State.{State}
+use Rattle.sl_model.specs.Exec.{touches}
+use Rattle.sl_model.specs.Legal.{Problem, straight_problem, written}
+use Rattle.sl_model.specs.Space.{InSpace, IsBest}
+use Rattle.sl_model.specs.Program.{TagsHoldOf, Leaves}
+use Rattle.sl_model.specs.Program.Program.{Straight}
+use Rattle.sl_isa.specs.declared.arch.CounterOp.TheVariants.{Sub, Subs}
+use Rattle.machine_sem.specs.FewForms.{few_isa, few_step}
 use Rattle.sl_model.specs.declared.text.CutRefusal.{CutRefusal}
 use Rattle.sl_model.specs.declared.text.CutRefusal.TheVariants as cuts
 use Rattle.sl_model.specs.Text.{Parts, whole_lines, cut, bad_line, holds}
@@ -8,8 +20,13 @@ use Rattle.sl_isa.specs.ThreeForms.{read_instr}
 use Rattle.slothy_cli.specs.declared.stop.Reason.TheVariants as reasons
 use Rattle.slothy_cli.specs.declared.stop.Quantity.TheVariants as quantities
 use Rattle.slothy_cli.specs.declared.stop.Stop.{Stop}
-use Rattle.slothy_cli.specs.declared.stop.Stop.TheVariants.{Refused, TooLarge}
-use Rattle.slothy_cli.specs.CostText.{cost_text}
+use Rattle.slothy_cli.specs.declared.stop.Stop.TheVariants.{Refused, TooLarge, Infeasible}
+use Rattle.slothy_cli.specs.declared.command.Mode.{Mode}
+use Rattle.slothy_cli.specs.declared.command.Mode.TheVariants.{Cost, Opt}
+use Rattle.slothy_cli.specs.declared.command.Wants.{Wants}
+use Rattle.slothy_cli.specs.Command.{Command, wants_of}
+use Rattle.slothy_cli.specs.CostText.{plain_costs, cost_text}
+use Rattle.slothy_cli.specs.Printed.{line_end, region_text, written_text, reads_region}
 
 infixl 10 ◌>>=◌
 -- goes on with what was found, unless there is a reason to stop
@@ -59,37 +76,74 @@ unless_at (Some line) x = Err (Refused line reasons.NotYet)
 abbrev pub built_parts : Parts → Result Parts Stop
 built_parts parts = unless_at (first_unbuilt 1 (whole_lines parts.before)) parts
 
--- an item before those of the lines below, where its line spells one and there is room for it
-abbrev pub item_before : ℕ → ℕ → Option Instr → Result (List Instr) Stop → Result (List Instr) Stop
-item_before number room None below = Err (Refused number reasons.NotYet)
-item_before number zero (Some i) below = Err (TooLarge number quantities.Items 64)
-item_before number (suc room) (Some i) below = below >>= λ items. Ok (i ∷ items)
+-- Does an item write a register?
+abbrev pub writes : Reg → Instr → Bool
+writes r i = is_some (place_from 0 r (outputs i))
 
--- the items of lines that are numbered from a first one, where there is room for so many
-unfoldable pub items_from : ℕ → ℕ → List (List ℕ) → Result (List Instr) Stop
-items_from number room [] = Ok []
-items_from number room (line ∷ lines) = item_before number room (read_instr number line) (items_from (number + 1) (room - 1) lines)
+-- Does an item write a register that one of some items writes?
+abbrev pub writes_again : List Instr → Instr → Bool
+writes_again items i = list_any (λ r. list_any (writes r) items) (outputs i)
 
--- the items of a region, at most 64
-abbrev pub region_items : Parts → Result (List Instr) Stop
-region_items parts = items_from parts.first 64 (whole_lines parts.body)
+-- The items so far with that of a line, where the line spells one. Of several faults the first counts: no such item, no
+-- room for it, a register that was written before.
+abbrev pub with_item : Wants → ℕ → List Instr → Option Instr → Result (List Instr) Stop
+with_item wants number items None = Err (Refused number reasons.NotYet)
+with_item wants number items (Some i) =
+    if not (nat_lt (length items) wants.limit) then Err (TooLarge number quantities.Items wants.limit)
+    else (if wants.once && writes_again items i then Err (Refused number reasons.NotYet) else Ok (items ++ i ∷ []))
 
--- the items of the region of a text
-unfoldable pub text_items : List ℕ → Result (List Instr) Stop
-text_items text = do
+-- the items so far with those of lines that are numbered from a first one
+unfoldable pub items_from : Wants → ℕ → List Instr → List (List ℕ) → Result (List Instr) Stop
+items_from wants number items [] = Ok items
+items_from wants number items (line ∷ lines) = with_item wants number items (read_instr number line) >>= λ more. items_from wants (number + 1) more lines
+
+-- a region: its parts in the text, and its items
+pub record Region : Type 0 where
+  pub parts : Parts
+  pub items : List Instr
+
+-- the region of a text
+unfoldable pub text_region : Wants → List ℕ → Result Region Stop
+text_region wants text = do
   parts ← parts_from text
   built ← built_parts parts
-  region_items built
+  items ← items_from wants built.first [] (whole_lines built.body)
+  Ok (record { parts = built; items = items })
 
--- the items of the region of a file with these bytes
-unfoldable pub file_items : List ℕ → Result (List Instr) Stop
-file_items bytes = do
+-- the region of a file with these bytes
+unfoldable pub file_region : Wants → List ℕ → Result Region Stop
+file_region wants bytes = do
   whole ← sized bytes
   text ← text_from whole
-  text_items text
+  text_region wants text
 
--- what `cost` answers for the core `one:L`
-unfoldable pub cost_outcome : ℕ → List ℕ → Result (List ℕ) Stop
-cost_outcome latency bytes = do
-  items ← file_items bytes
-  Ok (cost_text latency items)
+-- The problem of `opt`: all registers that the region writes are live-out, and none is free.
+abbrev pub opt_problem : ℕ → List Instr → Problem
+opt_problem latency items = straight_problem items (written items) [] (plain_costs latency (length items))
+
+-- The text of `opt`: the written file of the best schedule; and its region, read by itself, leaves what the old one
+-- leaves, from every state.
+pub record OptText (latency : ℕ) (region : Region) (text : List ℕ) : Type 0 where
+  pub schedule : List Choice
+  pub best : IsBest few_isa (opt_problem latency region.items) 64 schedule
+  pub text_is : text ≡ written_text region.parts (opt_problem latency region.items) schedule
+  pub new : List Instr
+  pub reads : reads_region (region_text (opt_problem latency region.items) schedule (line_end region.parts.before)) ≡ Some new
+  pub same : (s : State) → TagsHoldOf few_isa.space (touches few_isa region.items s)
+      → Leaves few_isa (λ flagged c. few_step (if flagged then Subs else Sub 1) c 0) (written region.items) [] (Straight region.items) (Straight new) s
+
+-- what `opt` answers for the core `one:L` to the region of a file: the text of the best schedule, or that there is none
+abbrev pub OptAnswers : ℕ → Region → Result (List ℕ) Stop → Type 0
+OptAnswers latency region (Ok text) = OptText latency region text
+OptAnswers latency region (Err stop) = (stop ≡ Infeasible 64) × ((schedule : List Choice) → InSpace few_isa (opt_problem latency region.items) 64 schedule → ⊥)
+
+-- what a mode answers to a region
+abbrev pub ModeAnswers : Mode → ℕ → Region → Result (List ℕ) Stop → Type 0
+ModeAnswers Cost latency region answer = answer ≡ Ok (cost_text latency region.items)
+ModeAnswers Opt latency region answer = OptAnswers latency region answer
+
+-- What a command answers to the bytes of its file: a text, or the one reason why there is none. A file without a region
+-- has none, for the first of its faults; and else the mode answers to its region.
+abbrev pub CommandAnswers : Command → List ℕ → Result (List ℕ) Stop → Type 0
+CommandAnswers c bytes answer =
+    MatchResult (file_region (wants_of c.mode) bytes) (λ region. ModeAnswers c.mode c.latency region answer) (λ stop. answer ≡ Err stop)

@@ -3,11 +3,49 @@ ghost use Rattle.std.specs.Prelude.{◌≡◌, ◌≤◌, List, ℕ, map, Option
 ghost use Rattle.std.specs.List.{list_all};
 ghost use Rattle.std.specs.Char.{is_ascii_digit};
 ghost use Rattle.slothy_cli.specs.Shown.{shown};
-ghost use Rattle.slothy_cli.specs.Command.{CostCommand as Cost, command_of, latency_of, latency_from, is_counting, is_name};
+ghost use Rattle.slothy_cli.specs.Command.{mode_of, wants_of, command_of, latency_of, latency_from, is_counting, is_name};
 
-/// `cost NAME --core one:L`.
+/// What a command does.
+#[derive(Clone, Copy, Debug, PartialEq, Eq)]
+pub enum Mode {
+    /// Says what the region costs as it stands.
+    Cost,
+    /// Writes the file with the region rescheduled.
+    Opt,
+}
+
+/// What a mode wants of a region.
+#[derive(Clone, Copy, Debug, PartialEq, Eq)]
+pub struct Wants {
+    /// The most instructions.
+    pub limit: usize,
+    /// Is each register to be written once?
+    pub once: bool,
+}
+
+impl Mode {
+    /// What the mode wants of a region: `cost` at most 64 instructions, `opt` at most 8, which write each register once.
+    pub fn wants(self) -> Wants
+        ensures { result ≡ wants_of self }
+    {
+        match self {
+            Mode::Cost => Wants {
+                limit: 64,
+                once: false,
+            },
+            Mode::Opt => Wants {
+                limit: 8,
+                once: true,
+            },
+        }
+    }
+}
+
+/// `cost NAME --core one:L` or `opt NAME --core one:L`.
 #[derive(Clone, Copy, Debug)]
-pub struct CostCommand<'a> {
+pub struct Command<'a> {
+    /// What is to be done.
+    pub mode: Mode,
     /// The name of the file.
     pub name: &'a str,
     /// The latency of the core, from 1 to 255 cycles.
@@ -62,20 +100,33 @@ fn is_name(word: &str) -> bool
     *first != b'-'
 }
 
+// The mode that a word names.
+fn mode_of(word: &str) -> Option<Mode>
+    ensures { result ≡ mode_of word.now }
+{
+    match word {
+        "cost" => Some(Mode::Cost),
+        "opt" => Some(Mode::Opt),
+        _ => None,
+    }
+}
+
 /// The command that words ask for; there is none where they are wrong. The first word is the program's name.
 #[tactic(auto, unfolding(crate::specs::Command::command_of))]
-pub fn command_of(words: &[String]) -> Option<CostCommand<'_>>
+pub fn command_of(words: &[String]) -> Option<Command<'_>>
     ensures value { option_map shown result ≡ command_of (map string_bytes words.now) }
     ensures range { IfSome result (λ command. (1 ≤ command.latency) × (command.latency ≤ 255)) }
 {
     let [_, mode, name, option, core] = words else {
         return None;
     };
-    if mode.as_str() != "cost" || !is_name(name.as_str()) || option.as_str() != "--core" {
+    if !is_name(name.as_str()) || option.as_str() != "--core" {
         return None;
     }
+    let mode = mode_of(mode.as_str())?;
     let latency = latency_of(core.as_str())?;
-    Some(CostCommand {
+    Some(Command {
+        mode,
         name: name.as_str(),
         latency,
     })

@@ -46,7 +46,7 @@ fn plain_row(latency: u8) -> CostRow
 }
 
 /// The costs of so many items on the core `one:latency`.
-fn plain_costs(alloc: Global, latency: u8, items: usize) -> Result<Costs, NoMemory>
+pub fn plain_costs(alloc: Global, latency: u8, items: usize) -> Result<Costs, NoMemory>
     requires { 1 ≤ latency }
     ensures { IfOk result (λ costs. costs ≡ plain_costs latency items) }
 {

@@ -3,6 +3,8 @@
 
 mod command;
 mod cost;
+mod opt;
+mod print;
 mod region;
 mod report;
 pub mod status;

@@ -1,13 +1,17 @@
 //! The region of a file: its items, or why it has none.
-ghost use Rattle.std.specs.Prelude.{◌≡◌, ◌≤◌, ◌<◌, ◌+◌, ◌^◌, codes, length, IfOk, Some, None};
+ghost use Rattle.std.specs.Prelude.{◌≡◌, ◌≤◌, ◌<◌, ◌+◌, ◌^◌, [], ◌∷◌, ◌++◌, codes, length, IfOk, OnOk, Some, None, Ok, Err, MatchResult};
 ghost use Rattle.sl_text.specs.Cut.{parts_of};
 ghost use Rattle.sl_model.specs.Text.{whole_lines};
-ghost use Rattle.slothy_cli.specs.Shown.{Answers, Gives};
-ghost use Rattle.slothy_cli.specs.Outcome.{is_unbuilt, first_unbuilt, refused_cut, sized, text_from, parts_from, built_parts, items_from, region_items, text_items, file_items};
+ghost use Rattle.std.specs.List.{filter_map, list_any};
+ghost use Rattle.sl_isa.specs.ThreeForms.{read_instr};
+ghost use Rattle.slothy_cli.specs.Shown.{Answers, Gives, region_of};
+ghost use Rattle.slothy_cli.specs.Outcome.{is_unbuilt, first_unbuilt, refused_cut, sized, text_from, parts_from, built_parts, writes, with_item, items_from, text_region, file_region};
 
+use crate::command::Wants;
 use crate::stop::{Failure, Quantity, Reason, Stop};
-use sl_isa::Instr;
+use legal_space::sources::place_of;
 use sl_isa::three_forms::read_line;
+use sl_isa::{Instr, Reg};
 use sl_text::{Cut, CutRefusal, cut_region, holds, split_line, text_of};
 use std::alloc::Global;
 
@@ -16,9 +20,6 @@ const START: &str = "slothy_start";
 
 /// The label of the line that a region stands above.
 const END: &str = "slothy_end";
-
-/// The most instructions that a region may have.
-const ITEMS: usize = 64;
 
 // Does a line hold a word that begins what isn't built yet?
 fn is_unbuilt(line: &str) -> bool
@@ -117,30 +118,71 @@ fn built_parts(cut: Cut<'_>) -> Result<Cut<'_>, Stop>
     }
 }
 
+// Does one of some items write a register?
+fn is_written(items: &[Instr], reg: Reg) -> bool
+    ensures { result ≡ list_any (writes reg) items.now }
+{
+    items.iter().any(|item| place_of(item, reg).is_some())
+}
+
+// Is one of some registers written by one of some items?
+fn is_any_written(items: &[Instr], regs: &[Option<Reg>]) -> bool
+    ensures { result ≡ list_any (λ r. list_any (writes r) items.now) (filter_map (λ r. r) regs.now) }
+{
+    regs.iter()
+        .filter_map(|reg| *reg)
+        .any(|reg| is_written(items, reg))
+}
+
+// The item of a line behind the items so far.
+fn next_item(wants: Wants, items: &[Instr], line: &str, number: u32) -> Result<Instr, Stop>
+    requires { wants.limit < 2 ^ 32 }
+    ensures answer { MatchResult result
+        (λ item. with_item wants number items.now (read_instr number line.now) ≡ Ok (items.now ++ item ∷ []))
+        (λ stop. with_item wants number items.now (read_instr number line.now) ≡ Err stop) }
+    ensures few { OnOk result (length items.now < wants.limit) }
+{
+    let Some(item) = read_line(line, number) else {
+        return Err(Stop::Refused {
+            line: number,
+            reason: Reason::NotYet,
+        });
+    };
+    if items.len() >= wants.limit {
+        return Err(Stop::TooLarge {
+            line: number,
+            quantity: Quantity::Items,
+            limit: wants.limit as u32,
+        });
+    }
+    if !wants.once {
+        return Ok(item);
+    }
+    if is_any_written(items, &item.outs) {
+        return Err(Stop::Refused {
+            line: number,
+            reason: Reason::NotYet,
+        });
+    }
+    Ok(item)
+}
+
 // The items of the lines of a region, whose first line has this number.
-fn items_from(alloc: Global, body: &str, first: u32) -> Result<Vec<Instr>, Failure>
+fn items_from(alloc: Global, wants: Wants, body: &str, first: u32) -> Result<Vec<Instr>, Failure>
+    requires limit { wants.limit < 2 ^ 32 }
     requires body { length body.now < 2 ^ 31 }
     requires first { first < 2 ^ 31 }
-    ensures answer { Gives (λ items. items.items) result (items_from first 64 (whole_lines body.now)) }
-    ensures few { IfOk result (λ items. length items.items ≤ 64) }
+    ensures answer { Gives (λ items. items.items) result (items_from wants first [] (whole_lines body.now)) }
+    ensures few { IfOk result (λ items. length items.items ≤ wants.limit) }
 {
     let mut items = Vec::new(alloc);
     let mut rest = body;
     let mut number = first;
     while let Some((line, below)) = split_line(rest) {
-        let Some(item) = read_line(line, number) else {
-            return Err(Failure::Stopped(Stop::Refused {
-                line: number,
-                reason: Reason::NotYet,
-            }));
+        let item = match next_item(wants, &items, line, number) {
+            Ok(item) => item,
+            Err(stop) => return Err(Failure::Stopped(stop)),
         };
-        if items.len() == ITEMS {
-            return Err(Failure::Stopped(Stop::TooLarge {
-                line: number,
-                quantity: Quantity::Items,
-                limit: ITEMS as u32,
-            }));
-        }
         items.push(item)?;
         number += 1;
         rest = below;
@@ -148,25 +190,37 @@ fn items_from(alloc: Global, body: &str, first: u32) -> Result<Vec<Instr>, Failu
     Ok(items)
 }
 
-// The items of the region of a text.
-#[tactic(auto, unfolding(crate::specs::Outcome::text_items))]
-fn text_items(alloc: Global, text: &str) -> Result<Vec<Instr>, Failure>
-    requires { length text.now < 2 ^ 31 }
-    ensures answer { Gives (λ items. items.items) result (text_items text.now) }
-    ensures few { IfOk result (λ items. length items.items ≤ 64) }
-{
-    let cut = parts_from(text)?;
-    let built = built_parts(cut)?;
-    items_from(alloc, built.body, built.first)
+/// A region: its text, and its items.
+#[derive(Drop)]
+pub struct Region<'a> {
+    /// The text, cut at the markers.
+    pub cut: Cut<'a>,
+    /// The instructions.
+    pub items: Vec<Instr>,
 }
 
-/// The items of the region of a file with these bytes, of which there are at most 1048576.
-#[tactic(auto, unfolding(crate::specs::Outcome::file_items))]
-pub fn file_items(alloc: Global, bytes: &[u8]) -> Result<Vec<Instr>, Failure>
-    requires { length bytes.now ≤ 1048576 }
-    ensures answer { Gives (λ items. items.items) result (file_items bytes.now) }
-    ensures few { IfOk result (λ items. length items.items ≤ 64) }
+// The region of a text.
+#[tactic(auto, unfolding(crate::specs::Outcome::text_region))]
+fn text_region(alloc: Global, wants: Wants, text: &str) -> Result<Region<'_>, Failure>
+    requires limit { wants.limit < 2 ^ 32 }
+    requires short { length text.now < 2 ^ 31 }
+    ensures answer { Gives region_of result (text_region wants text.now) }
+    ensures few { IfOk result (λ region. length region.items.items ≤ wants.limit) }
+{
+    let cut = parts_from(text)?;
+    let cut = built_parts(cut)?;
+    let items = items_from(alloc, wants, cut.body, cut.first)?;
+    Ok(Region { cut, items })
+}
+
+/// The region of a file with these bytes, of which there are at most 1048576.
+#[tactic(auto, unfolding(crate::specs::Outcome::file_region))]
+pub fn file_region(alloc: Global, wants: Wants, bytes: &[u8]) -> Result<Region<'_>, Failure>
+    requires limit { wants.limit < 2 ^ 32 }
+    requires short { length bytes.now ≤ 1048576 }
+    ensures answer { Gives region_of result (file_region wants bytes.now) }
+    ensures few { IfOk result (λ region. length region.items.items ≤ wants.limit) }
 {
     let text = text_from(bytes)?;
-    text_items(alloc, text)
+    text_region(alloc, wants, text)
 }

@@ -98,6 +98,19 @@ fn report_limit<'a, S: Sink>(
     );
 }
 
+// Says that no schedule has so few stalls, in decimal digits.
+fn report_infeasible<S: Sink>(sink: &mut S, most: &str)
+    ensures never_falls { S.faults sink.old ≤ S.faults sink.new }
+    ensures took { TookFront (record {
+      before = S.taken sink.old;
+      after = S.taken sink.new;
+      faults_before = S.faults sink.old;
+      faults_after = S.faults sink.new;
+    }) (joined (codes "slothy: infeasible up to " ∷ most.now ∷ codes " stalls\n" ∷ [])) }
+{
+    tell(sink, &["slothy: infeasible up to ", most, " stalls\n"]);
+}
+
 // Says why a file has no text.
 fn report_stop<S: Sink>(sink: &mut S, name: &str, stop: Stop)
     ensures never_falls { S.faults sink.old ≤ S.faults sink.new }
@@ -123,6 +136,7 @@ fn report_stop<S: Sink>(sink: &mut S, name: &str, stop: Stop)
             let limit = limit_digits.format(limit);
             report_limit(sink, name, line, quantity_text(quantity), limit);
         }
+        Stop::Infeasible { most } => report_infeasible(sink, limit_digits.format(most)),
     }
 }
 

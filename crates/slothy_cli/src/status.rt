@@ -68,6 +68,7 @@ impl Ending {
             Ending::Usage => Status::Usage,
             Ending::Stopped(Stop::Refused { .. }) => Status::Refused,
             Ending::Stopped(Stop::TooLarge { .. }) => Status::TooLarge,
+            Ending::Stopped(Stop::Infeasible { .. }) => Status::Infeasible,
             Ending::ReadFault => Status::ReadFault,
             Ending::WriteFault { .. } => Status::WriteFault,
             Ending::NoMemory => Status::NoMemory,

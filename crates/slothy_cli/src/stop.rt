@@ -2,6 +2,7 @@
 ghost use Rattle.std.specs.Prelude.{◌≡◌};
 ghost use Rattle.slothy_cli.specs.declared.stop.Failure.TheVariants.{Stopped, NoMemory};
 
+use sl_base::NoMemory as OutOfMemory;
 use std::alloc::{AllocError, AllocFailed};
 
 /// Why an input is refused.
@@ -36,6 +37,10 @@ pub enum Stop {
         line: u32,
         reason: Reason,
     },
+    /// No schedule has at most this many stalls.
+    Infeasible {
+        most: u32,
+    },
     /// The quantity passes its limit at this line.
     TooLarge {
         line: u32,
@@ -58,6 +63,14 @@ impl From<Stop> for Failure {
 
     fn from(stop: Stop) -> Failure {
         Failure::Stopped(stop)
+    }
+}
+
+impl From<OutOfMemory> for Failure {
+    ghost from_gives = { λ _ e. e ≡ NoMemory };
+
+    fn from(_error: OutOfMemory) -> Failure {
+        Failure::NoMemory
     }
 }
 

@@ -111,6 +111,120 @@ fn a_chain_costs_what_the_issue_rule_says(rt: HostRuntime) -> Result<(), Fail> {
     Ok(())
 }
 
+/// The region of three instructions, rescheduled at latency 2.
+const CHAIN_WRITTEN: &str = "\
+    slothy_start:\n\
+    \x20       // @slothy:region v=1 kind=straight n=3 cycles=3 stalls=0\n\
+    \x20       add x2, x1, x0 // @slothy:i=0 u=u c=0 line=2\n\
+    \x20       sub x4, x1, x0 // @slothy:i=2 u=u c=1 line=4\n\
+    \x20       eor x3, x2, x2 // @slothy:i=1 u=u c=2 line=3\n\
+    slothy_end:\n";
+
+#[test]
+fn opt_writes_the_best_schedule(rt: HostRuntime) -> Result<(), Fail> {
+    let cases = [
+        (
+            "opt k.s --core one:2",
+            CHAIN,
+            Status::Done,
+            CHAIN_WRITTEN,
+            "",
+        ),
+        (
+            "opt k.s --core one:2",
+            "        nop\nslothy_start:\n        add x2, x1, x0\n        eor x3, x2, x1\n        sub x1, x0, x4\nslothy_end: // x\n        ret",
+            Status::Done,
+            "\
+            \x20       nop\nslothy_start:\n\
+            \x20       // @slothy:region v=1 kind=straight n=3 cycles=4 stalls=1\n\
+            \x20       add x2, x1, x0 // @slothy:i=0 u=u c=0 line=3\n\
+            \x20       eor x3, x2, x1 // @slothy:i=1 u=u c=2 line=4\n\
+            \x20       sub x1, x0, x4 // @slothy:i=2 u=u c=3 line=5\n\
+            slothy_end: // x\n        ret",
+            "",
+        ),
+        (
+            "opt k.s --core one:66",
+            "slothy_start:\n        add x2, x1, x0\n        add x3, x2, x2\nslothy_end:\n",
+            Status::Infeasible,
+            "",
+            "slothy: infeasible up to 64 stalls\n",
+        ),
+        (
+            "opt k.s --core one:65",
+            "slothy_start:\n        add x2, x1, x0\n        add x3, x2, x2\nslothy_end:\n",
+            Status::Done,
+            "\
+            slothy_start:\n\
+            \x20       // @slothy:region v=1 kind=straight n=2 cycles=66 stalls=64\n\
+            \x20       add x2, x1, x0 // @slothy:i=0 u=u c=0 line=2\n\
+            \x20       add x3, x2, x2 // @slothy:i=1 u=u c=65 line=3\n\
+            slothy_end:\n",
+            "",
+        ),
+        (
+            "opt k.s --core one:2",
+            "slothy_start:\r\n        add x2, x1, x0\nslothy_end:\n",
+            Status::Done,
+            "\
+            slothy_start:\r\n\
+            \x20       // @slothy:region v=1 kind=straight n=1 cycles=1 stalls=0\r\n\
+            \x20       add x2, x1, x0 // @slothy:i=0 u=u c=0 line=2\r\n\
+            slothy_end:\n",
+            "",
+        ),
+        (
+            "opt k.s --core one:2",
+            "slothy_start:\nslothy_end:\n",
+            Status::Done,
+            "\
+            slothy_start:\n\
+            \x20       // @slothy:region v=1 kind=straight n=0 cycles=0 stalls=0\n\
+            slothy_end:\n",
+            "",
+        ),
+        (
+            "opt k.s --core one:2",
+            "slothy_start:\n        add x2, x1, x0\n        add x2, x3, x3\n        nop\nslothy_end:\n",
+            Status::Refused,
+            "",
+            "slothy: k.s:3: refused: NotYet\n",
+        ),
+    ];
+    for (words, text, status, out, err) in cases {
+        let answer = run_on(&rt, rt.alloc(), words, text.as_bytes(), NONE)?;
+        assert!(rt; answer.is(status, out, err), "at {words} of {text:?}");
+    }
+    Ok(())
+}
+
+#[test]
+fn eight_items_are_the_limit_of_opt(rt: HostRuntime) -> Result<(), Fail> {
+    let alloc = rt.alloc();
+    let full =
+        "slothy_start:\n        add x1, x0, x0\n        add x2, x1, x1\n        add x3, x2, x2\n        add x4, x3, x3\n        add x5, x4, x4\n        add x6, x5, x5\n        add x7, x6, x6\n        add x8, x7, x7\n";
+    let ends = [
+        ("slothy_end:\n", Status::Done, ""),
+        (
+            "        add x1, x0, x0\nslothy_end:\n",
+            Status::TooLarge,
+            "slothy: k.s:10: too large: items limit=8\n",
+        ),
+        (
+            "        nop\nslothy_end:\n",
+            Status::Refused,
+            "slothy: k.s:10: refused: NotYet\n",
+        ),
+    ];
+    for (end, status, err) in ends {
+        let text = repeated(alloc, full, "", 0, end)?;
+        let answer = run_on(&rt, alloc, "opt k.s --core one:2", &text, NONE)?;
+        assert_eq!(rt; answer.status, status);
+        assert!(rt; answer.err.as_slice() == err.as_bytes(), "at {end:?}");
+    }
+    Ok(())
+}
+
 #[test]
 fn wrong_words_are_wrong_use(rt: HostRuntime) -> Result<(), Fail> {
     let cases = [
@@ -121,7 +235,9 @@ fn wrong_words_are_wrong_use(rt: HostRuntime) -> Result<(), Fail> {
         "cost k.s --core one:2 x",
         "cost --core one:2 k.s",
         "k.s cost --core one:2",
-        "opt k.s --core one:2",
+        "opt k.s --core one:0",
+        "opt --core one:2 k.s",
+        "check k.s --core one:2",
         "Cost k.s --core one:2",
         "cost k.s --cores one:2",
         "cost k.s core one:2",

@@ -1,13 +1,14 @@
 //! The command as a whole.
-ghost use Rattle.std.specs.Prelude.{◌≡◌, ◌≤◌, ◌↔◌, ℕ, List, map, Some, None, string_bytes};
+ghost use Rattle.std.specs.Prelude.{◌≡◌, ◌≤◌, ◌↔◌, ℕ, List, map, Result, Some, None, string_bytes};
 ghost use Rattle.slothy_cli.specs.declared.status.Ending.{Ending as TheEnding};
-ghost use Rattle.slothy_cli.specs.Command.{CostCommand as Cost, command_of};
+ghost use Rattle.slothy_cli.specs.declared.stop.Stop.{Stop as TheStop};
+ghost use Rattle.slothy_cli.specs.Command.{Command as Words, command_of};
 ghost use Rattle.slothy_cli.specs.Shown.{shown};
-ghost use Rattle.slothy_cli.specs.Outcome.{cost_outcome};
+ghost use Rattle.slothy_cli.specs.Outcome.{CommandAnswers};
 ghost use Rattle.slothy_cli.specs.Messages.{status_of};
 ghost use Rattle.slothy_cli.specs.Ending.{Ends, Call, IsStatusOf, Delivers};
 
-use crate::command::{CostCommand, command_of};
+use crate::command::{Command, command_of};
 use crate::report::report;
 use crate::status::{Ending, Status};
 use crate::work::text_of_file;
@@ -34,7 +35,7 @@ fn deliver<O: Sink>(out: &mut O, text: &str) -> Ending
 // Carries a command out.
 fn carry_out<F: Files, O: Sink>(
     alloc: Global,
-    command: &CostCommand<'_>,
+    command: &Command<'_>,
     files: &mut F,
     out: &mut O,
 ) -> Ending
@@ -136,8 +137,8 @@ pub fn run<R: Threads + Sync, F: Files, O: Sink, E: Sink, G: Gate + Sync>(
     ensures usage { (result ≡ Status.Usage) ↔ (command_of (map string_bytes words.now) ≡ None) }
 
     // Of a file whose bytes are known the status is that of its outcome, faults and want of memory aside.
-    ensures exact { (c : Cost) (bytes : List ℕ) → command_of (map string_bytes words.now) ≡ Some c → F.holds files.old c.name ≡ Some bytes
-        → IsStatusOf (cost_outcome c.latency bytes) result }
+    ensures exact { (c : Words) (bytes : List ℕ) (answer : Result (List ℕ) TheStop) → command_of (map string_bytes words.now) ≡ Some c → F.holds files.old c.name ≡ Some bytes
+        → CommandAnswers c bytes answer → IsStatusOf answer result }
 
     // What stays, and counts of faults never fall.
     ensures same_files { F.holds files.new ≡ F.holds files.old }

@@ -1,12 +1,15 @@
 //! From a command and its file to the text.
 ghost use Rattle.std.specs.Prelude.{◌≡◌, ◌≤◌, ◌<◌, ℕ, List, length, Some, Ok, Err, IfOk, IfErr, string_bytes};
-ghost use Rattle.slothy_cli.specs.Shown.{shown, Gives, unread_ending, failed_ending};
-ghost use Rattle.slothy_cli.specs.Outcome.{file_items, cost_outcome};
+ghost use Rattle.slothy_cli.specs.Shown.{shown, region_of, Settles, unread_ending, failed_ending};
+ghost use Rattle.slothy_cli.specs.Command.{wants_of};
+ghost use Rattle.slothy_cli.specs.Outcome.{ModeAnswers, CommandAnswers};
+ghost use Rattle.slothy_cli.specs.Fine.{AreFine};
 ghost use Rattle.slothy_cli.specs.Ending.{HasText, HasCause};
 
-use crate::command::CostCommand;
+use crate::command::{Command, Mode};
 use crate::cost::cost_text;
-use crate::region::file_items;
+use crate::opt::opt_text;
+use crate::region::{Region, file_region};
 use crate::status::Ending;
 use crate::stop::{Failure, Quantity, Stop};
 use sl_base::{Files, ReadErr, read_all};
@@ -15,16 +18,34 @@ use std::alloc::Global;
 /// The most bytes that a file may have.
 const FILE_BYTES: u64 = 1048576;
 
-// What `cost` answers to the bytes of a file, of which there are at most 1048576.
-#[tactic(auto, unfolding(crate::specs::Outcome::cost_outcome))]
-fn answer(alloc: Global, latency: u8, bytes: &[u8]) -> Result<String, Failure>
-    requires least { 1 ≤ latency }
-    requires few { length bytes.now ≤ 1048576 }
-    ensures { Gives string_bytes result (cost_outcome latency bytes.now) }
+// The text of a command, from its region.
+fn text_of_region(
+    alloc: Global,
+    command: &Command<'_>,
+    region: &Region<'_>,
+) -> Result<String, Failure>
+    requires least { 1 ≤ command.now.latency }
+    requires few { length region.now.items.items ≤ (wants_of command.now.mode).limit }
+    requires fine { AreFine (wants_of command.now.mode) region.now.items.items }
+    ensures { Settles string_bytes result (ModeAnswers command.now.mode command.now.latency (region_of region.now)) }
 {
-    let items = file_items(alloc, bytes)?;
-    let text = cost_text(alloc, &items, latency)?;
-    Ok(text)
+    match command.mode {
+        Mode::Cost => {
+            let text = cost_text(alloc, &region.items, command.latency)?;
+            Ok(text)
+        }
+        Mode::Opt => opt_text(alloc, region, command.latency),
+    }
+}
+
+// What a command answers to the bytes of its file, of which there are at most 1048576.
+fn answer(alloc: Global, command: &Command<'_>, bytes: &[u8]) -> Result<String, Failure>
+    requires least { 1 ≤ command.now.latency }
+    requires short { length bytes.now ≤ 1048576 }
+    ensures { Settles string_bytes result (CommandAnswers (shown command.now) bytes.now) }
+{
+    let region = file_region(alloc, command.mode.wants(), bytes)?;
+    text_of_region(alloc, command, &region)
 }
 
 // How a file that couldn't be read ends the call.
@@ -55,13 +76,13 @@ fn unanswered(failure: Failure) -> Ending
 /// The text of a command, from its file.
 pub fn text_of_file<F: Files>(
     alloc: Global,
-    command: &CostCommand<'_>,
+    command: &Command<'_>,
     files: &mut F,
 ) -> Result<String, Ending>
     requires { 1 ≤ command.now.latency }
     ensures same_files { F.holds files.new ≡ F.holds files.old }
     ensures never_falls { F.faults files.old ≤ F.faults files.new }
-    ensures text { IfOk result (λ text. HasText (F.holds files.old command.now.name.now) command.now.latency (string_bytes text)) }
+    ensures text { IfOk result (λ text. HasText (shown command.now) (F.holds files.old command.now.name.now) (string_bytes text)) }
     ensures cause { IfErr result (λ ending. HasCause (shown command.now) (F.holds files.old command.now.name.now) (record {
       faults_before = F.faults files.old;
       faults_after = F.faults files.new;
@@ -71,7 +92,7 @@ pub fn text_of_file<F: Files>(
     }) ending) }
 {
     match read_all(alloc, files, command.name, FILE_BYTES) {
-        Ok(bytes) => match answer(alloc, command.latency, &bytes) {
+        Ok(bytes) => match answer(alloc, command, &bytes) {
             Ok(text) => Ok(text),
             Err(failure) => Err(unanswered(failure)),
         },

@@ -1,15 +1,14 @@
-use Rattle.std.proofs.Common.{◌≡◌, ◌≤◌, ◌+◌, ◌-◌, length, IsUtf8}
+use Rattle.std.proofs.Common.{◌≡◌, ◌≤◌, ◌+◌, [], length, IsUtf8}
 use Rattle.sl_model.specs.Text.{whole_lines}
 use Rattle.slothy_cli.specs.Outcome.{items_from}
-use Rattle.slothy_cli.proofs.Items.{with_front}
 use Rattle.slothy_cli.proofs.region.items_from.Given as goal
 
 -- the items so far, and then those of the rest
 abbrev pub invariant-loop-line : goal.invariant-loop-line
 invariant-loop-line l = record {
   utf8 : IsUtf8 l.rest;
-  items : with_front l.items.items (items_from l.number (64 - length l.items.items) (whole_lines l.rest)) ≡ items_from l.first 64 (whole_lines l.body);
-  few : length l.items.items ≤ 64;
+  items : items_from l.wants l.number l.items.items (whole_lines l.rest) ≡ items_from l.wants l.first [] (whole_lines l.body);
+  few : length l.items.items ≤ l.wants.limit;
   numbers : l.number + length l.rest ≤ l.first + length l.body;
 }
 
