@@ -1,4 +1,5 @@
 pub mod Maps
+pub mod Entries
 pub mod Undo
 pub mod Fitting
 pub mod Stepping

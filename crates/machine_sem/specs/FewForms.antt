@@ -1,6 +1,6 @@
 -- A small instruction set of x registers, with a counter's steps, a load and a store: what the laws of instruction
 -- sets ask for can be met. Source: DDI 0487, A64 base instructions.
-use Rattle.std.specs.Prelude.{ℕ, ℤ, true, false, pos, ◌+◌, ◌-◌, ◌*◌, ◌/◌, ◌%◌, ◌^◌, ◌==◌, ◌&&◌, nat_lt, int_le, unsigned_abs, bit_xor, List, [], ◌∷◌, slice_index, slice_index_or, Option, None, Some, if◌then◌else◌}
+use Rattle.std.specs.Prelude.{ℕ, ℤ, true, false, pos, ◌+◌, ◌-◌, ◌*◌, ◌/◌, ◌%◌, ◌^◌, ◌==◌, ◌&&◌, nat_lt, int_le, unsigned_abs, bit_xor, List, [], ◌∷◌, slice_index, slice_index_or, Option, None, Some, Result, Err, if◌then◌else◌}
 use Rattle.sl_model.specs.declared.register.Bank.TheVariants.{General}
 use Rattle.sl_model.specs.declared.register.Reg.{Reg}
 use Rattle.sl_model.specs.declared.register.RegSet.{RegSet}
@@ -8,10 +8,13 @@ use Rattle.sl_model.specs.declared.instruction.ArchName.TheVariants.{Arm64}
 use Rattle.sl_model.specs.declared.instruction.Access.{Access}
 use Rattle.sl_model.specs.declared.instruction.FormInfo.{FormInfo}
 use Rattle.sl_model.specs.declared.instruction.Instr.{Instr}
+use Rattle.sl_model.specs.Token.{Lexeme}
 use Rattle.sl_model.specs.Machine.{space_of, limit_of}
 use Rattle.sl_model.specs.Isa.{Isa}
 use Rattle.sl_isa.specs.declared.arch.CounterOp.{CounterOp}
 use Rattle.sl_isa.specs.declared.arch.CounterOp.TheVariants.{Sub, Subs, Lsr}
+use Rattle.sl_isa.specs.declared.reasons.FormReason.{FormReason}
+use Rattle.sl_isa.specs.declared.reasons.FormReason.TheVariants.{UnknownMnemonic}
 use Rattle.sl_isa.specs.Arch.{flags_register}
 use Rattle.machine_sem.specs.declared.few_forms.Form.{Form}
 use Rattle.machine_sem.specs.declared.few_forms.Form.TheVariants.{AddRegisters, SubRegisters, EorRegisters, SubNumber, SubsNumber, LsrNumber, LoadHalf, StoreHalf}
@@ -145,6 +148,13 @@ few_step op counter line = record {
   late = false;
   line = line;
 }
+
+-- The example set has no words: nothing spells one of its instructions, and they are printed as nothing.
+abbrev pub few_reads : List Lexeme → Result Instr FormReason
+few_reads words = Err UnknownMnemonic
+
+abbrev pub few_printed : Instr → List ℕ
+few_printed i = []
 
 -- the registers of an example of a form: it reads x1, and x2 where it has a second operand, and writes x3; the store
 -- moves x2 on

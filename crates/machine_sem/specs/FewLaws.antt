@@ -1,5 +1,5 @@
 -- The small instruction set is lawful.
-use Rattle.std.proofs.Common.{◌≡◌, ℕ, pos, zero, suc, ◌+◌, ◌-◌, ◌*◌, ◌/◌, ◌%◌, ◌^◌, ◌<◌, ◌≤◌, ◌≤ℤ◌, ◌+ℤ◌, Bool, true, false, ◌&&◌, List, [], ◌∷◌, length, slice_index, Option, None, Some, refl, sym, ap, subst, ◌∙◌, arith, lit<, lit≤, rules, add-zero}
+use Rattle.std.proofs.Common.{◌≡◌, ℕ, pos, zero, suc, ◌+◌, ◌-◌, ◌*◌, ◌/◌, ◌%◌, ◌^◌, ◌<◌, ◌≤◌, ◌≤ℤ◌, ◌+ℤ◌, Bool, true, false, ◌&&◌, List, [], ◌∷◌, length, slice_index, Option, None, Some, Ok, refl, sym, ap, subst, ◌∙◌, arith, lit<, lit≤, rules, add-zero}
 use Rattle.std.proofs.lemmas.Bool.{true≢false, ltb-true, lt-ltb, le-leb}
 use Rattle.std.proofs.lemmas.Nat.{mod_below}
 use Rattle.std.specs.Prelude.{if◌then◌else◌, nat_lt, bit_xor, ◌==◌}
@@ -13,6 +13,8 @@ use Rattle.sl_model.specs.declared.register.Reg.{Reg}
 use Rattle.sl_model.specs.declared.register.RegSet.{RegSet}
 use Rattle.sl_model.specs.declared.instruction.Instr.{Instr}
 use Rattle.sl_model.specs.declared.instruction.ArchName.TheVariants.{Arm64}
+use Rattle.sl_model.specs.declared.text.Comments.{Comments}
+use Rattle.sl_model.specs.Token.{Lexeme}
 use Rattle.sl_model.specs.RegSets.{set_has, set_count}
 use Rattle.sl_model.specs.Register.{same_reg}
 use Rattle.sl_model.specs.Body.{all_differ}
@@ -23,10 +25,10 @@ use Rattle.sl_model.specs.Exec.{has_access, is_store, base_value}
 use Rattle.sl_model.specs.Lawful.{IsValid, IsLawful, IsBelow, fit, are_bytes, suits_set, is_tied_to, zero_register}
 use Rattle.sl_isa.specs.declared.arch.CounterOp.{CounterOp}
 use Rattle.sl_isa.specs.declared.arch.CounterOp.TheVariants.{Sub, Subs, Lsr}
-use Rattle.sl_isa.specs.Arch.{IsStep, Steps, flags_register, access_of, stored_by}
+use Rattle.sl_isa.specs.Arch.{IsStep, Steps, IsRead, IsSpelledAt, is_behind, flags_register, access_of, stored_by}
 use Rattle.machine_sem.specs.declared.few_forms.Form.{Form}
 use Rattle.machine_sem.specs.declared.few_forms.Form.TheVariants.{AddRegisters, SubRegisters, EorRegisters, SubNumber, SubsNumber, LsrNumber, LoadHalf, StoreHalf}
-use Rattle.machine_sem.specs.FewForms.{few_isa, few_step, form_of, info_of, offset_by, values_by, stored_by_form, number_in, operand_in, less, access_by, example, example_ins, example_outs, flags_of, x_registers, the_flags}
+use Rattle.machine_sem.specs.FewForms.{few_isa, few_step, few_reads, few_printed, form_of, info_of, offset_by, values_by, stored_by_form, number_in, operand_in, less, access_by, example, example_ins, example_outs, flags_of, x_registers, the_flags}
 
 both : (a b : Bool) → (a && b) ≡ true → (a ≡ true) × (b ≡ true)
 both true b h = (refl, h)
@@ -259,6 +261,14 @@ steps_of (Lsr by) General false number line counts step = record {
 pub few_steps : (op : CounterOp) (counter : Reg) (line : ℕ) → can_count few_isa.name counter ≡ true → IsStep op → Steps few_isa op counter line (few_step op counter line)
 unfolding few_isa
 few_steps op counter line counts step = steps_of op counter.bank counter.symbolic counter.number line counts step
+
+-- nothing is read, so what is read is an instruction of the set, and is printed as it is read
+pub few_reads_valid : (words : List Lexeme) (i : Instr) → few_reads words ≡ Ok i → IsRead few_isa i
+few_reads_valid words i read = absurd cc
+
+pub few_reads_again : (words : List Lexeme) (i : Instr) → few_reads words ≡ Ok i → (comments : Comments) (place : ℕ) (behind : List ℕ)
+    → is_behind behind ≡ true → IsSpelledAt few_reads comments (few_printed i) place behind i
+few_reads_again words i read comments place behind is = absurd cc
 
 base_wrapped : (a : ℕ) → a % 2 ^ 64 ≡ (a + 0) % 2 ^ 64
 base_wrapped a = ap (λ m. m % 2 ^ 64) (sym (add-zero a))

@@ -3,10 +3,16 @@
 ghost use Rattle.std.specs.Prelude.{◌≡◌, ◌%◌, ◌^◌, ◌<◌, ◌∷◌, [], pos, slice_index};
 ghost use Rattle.sl_isa.specs.Arch.{padded_values};
 ghost use Rattle.sl_model.specs.Lawful.{IsValid};
-ghost use Rattle.machine_sem.specs.FewForms.{few_isa, few_step, form_of, info_of, less, flags_of, values_by, stored_by_form, step_form, step_number, step_flags, offset_by, access_by, x_register, example, example_ins, example_outs, operand_in, number_in, plain_info};
-ghost use Rattle.machine_sem.specs.FewLaws.{few_lawful, few_steps};
+ghost use Rattle.machine_sem.specs.FewForms.{few_isa, few_step, few_reads, few_printed, form_of, info_of, less, flags_of, values_by, stored_by_form, step_form, step_number, step_flags, offset_by, access_by, x_register, example, example_ins, example_outs, operand_in, number_in, plain_info};
+ghost use Rattle.machine_sem.specs.FewLaws.{few_lawful, few_steps, few_reads_valid, few_reads_again};
 
-use sl_isa::{Access, Arch, ArchName, Bank, CounterOp, FormInfo, Instr, Outs, Reg, RegSet};
+use sl_base::NoMemory;
+use sl_isa::{
+    Access, Arch, ArchName, Bank, CounterOp, FormErr, FormInfo, FormReason, Instr, Outs, Reg,
+    RegSet,
+};
+use sl_text::Token;
+use std::alloc::Global;
 
 // `add`, `sub` and `eor` of three x registers; `sub`, `subs` and `lsr` with a number; a load of two
 // bytes, and a store of two bytes that moves its base on.
@@ -165,6 +171,10 @@ impl Arch for FewForms {
 
     ghost step_of = { few_step };
 
+    ghost reads = { few_reads };
+
+    ghost printed = { few_printed };
+
     fn name(&self) -> ArchName {
         ArchName::Arm64
     }
@@ -175,6 +185,14 @@ impl Arch for FewForms {
 
     fn offset(&self, instr: &Instr) -> i64 {
         offset_of(form_of(instr.form), number_in(instr))
+    }
+
+    fn read_form(&self, _alloc: Global, _tokens: &[Token<'_>]) -> Result<Instr, FormErr> {
+        Err(FormErr::Refused(FormReason::UnknownMnemonic))
+    }
+
+    fn print_form(&self, _instr: &Instr, _out: &mut Vec<u8>) -> Result<(), NoMemory> {
+        Ok(())
     }
 
     fn access(&self, instr: &Instr, ins: &[u128]) -> Option<Access> {
@@ -200,6 +218,10 @@ impl Arch for FewForms {
     }
 
     ghost lawful = { few_lawful };
+
+    ghost reads_valid = { few_reads_valid };
+
+    ghost reads_again = { few_reads_again };
 
     ghost steps = { few_steps };
 }

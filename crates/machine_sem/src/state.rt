@@ -1,6 +1,6 @@
 //! States: the registers and the bytes of memory that were set.
 ghost use Rattle.std.specs.Prelude.{◌≡◌, ◌∷◌, [], ◌<◌, OnOk, OnErr, IsSome};
-ghost use Rattle.std.specs.FinMap.{get};
+ghost use Rattle.std.specs.FinMap.{get, entries};
 ghost use Rattle.sl_model.specs.Register.{bank_number};
 ghost use Rattle.sl_model.specs.State.{reg_key, is_zero, read, write, byte, put};
 ghost use Rattle.sl_model.specs.Isa.{Isa};
@@ -13,6 +13,7 @@ use sl_base::NoMemory;
 use sl_isa::{Bank, Reg};
 use std::alloc::Global;
 use std::collections::BTreeMap;
+use std::collections::btree_map::Iter;
 use std::marker::Model;
 
 /// A machine state. A register or a byte that was never set reads 0.
@@ -97,8 +98,8 @@ impl State {
         Ok(())
     }
 
-    // The value that a register was set to.
-    pub(crate) fn kept(&self, reg: Reg) -> Option<u128>
+    /// The value that a register was set to.
+    pub fn kept(&self, reg: Reg) -> Option<u128>
         ensures { result ≡ get self.now.regs (reg_key reg) }
     {
         self.regs.get(&key(reg)).copied()
@@ -118,11 +119,18 @@ impl State {
         };
     }
 
-    // The byte that an address was set to.
-    pub(crate) fn kept_byte(&self, address: u64) -> Option<u8>
+    /// The byte that an address was set to.
+    pub fn kept_byte(&self, address: u64) -> Option<u8>
         ensures { result ≡ get self.now.memory address }
     {
         self.memory.get(&address).copied()
+    }
+
+    /// The bytes that were set, by rising address.
+    pub fn bytes(&self) -> Iter<'_, u64, u8>
+        ensures { result ≡ entries self.now.memory }
+    {
+        self.memory.iter()
     }
 
     // Puts an address that was set back to what it was before.

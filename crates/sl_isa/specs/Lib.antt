@@ -1,3 +1,3 @@
-pub mod ThreeForms
-pub mod Steps
 pub mod Arch
+pub mod Symbols
+pub mod SymbolViews

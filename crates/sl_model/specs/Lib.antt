@@ -5,6 +5,7 @@ pub mod Cycles
 pub mod Text
 pub mod Token
 pub mod State
+pub mod StateText
 pub mod Isa
 pub mod Exec
 pub mod Body

@@ -1,17 +1,12 @@
 pub mod Latency
 pub mod Items
+pub mod PlainCosts
+pub mod OwnTimes
 pub mod Telling
 pub mod Causes
 pub mod Calls
-pub mod OwnTimes
-pub mod ReadyTimes
-pub mod PrintedLines
-pub mod PlainApplied
-pub mod LineNumbers
-pub mod PrintedText
-pub mod PlainItems
-pub mod PlainValid
-pub mod OptItems
-pub mod OptProblem
+pub mod RegionItems
 pub mod OptChoices
 pub mod OptAnswer
+mod Parts
+pub mod Arm64Printed

@@ -1,57 +1,75 @@
 -- What `opt` answers.
-use Rattle.std.proofs.Common.{◌≡◌, ℕ, Bool, true, false, inl, inr, List, [], length, Result, Ok, Err, refl, sym, subst}
+use Rattle.std.proofs.Common.{◌≡◌, ℕ, ◌≤◌, List, [], length, Option, Some, Result, Ok, Err, if◌then◌else◌, refl, sym, ap, ◌∙◌, subst, arith}
+use Rattle.std.specs.Prelude.{MatchOption}
+use Rattle.std.proofs.lemmas.List.{length-replicate}
 use Rattle.sl_model.specs.declared.instruction.Instr.{Instr}
 use Rattle.sl_model.specs.declared.schedule.Choice.{Choice}
-use Rattle.sl_model.specs.Legal.{written}
-use Rattle.sl_model.specs.Space.{IsBest}
+use Rattle.sl_model.specs.Body.{applied}
+use Rattle.sl_model.specs.Legal.{Problem, written, body_of}
+use Rattle.sl_model.specs.Isa.{Isa}
+use Rattle.sl_model.specs.Lawful.{IsLawful}
+use Rattle.sl_model.specs.Space.{InSpace, IsBest}
 use Rattle.sl_isa.specs.declared.arch.CounterOp.TheVariants.{Sub, Subs}
-use Rattle.machine_sem.specs.FewForms.{few_isa, few_step}
-use Rattle.machine_sem.specs.FewLaws.{few_lawful}
-use Rattle.slothy_cli.specs.CostText.{plain_costs}
-use Rattle.slothy_cli.specs.Printed.{ends_by_both, line_end, written_text}
+use Rattle.sl_isa.specs.Arch.{Language}
+use Rattle.legal_space.specs.Listing.{IsListable}
+use Rattle.asm_reader.specs.Reading.{Region}
+use Rattle.asm_reader.specs.Views.{comments_of}
+use Rattle.asm_printer.specs.Printed.{line_end, written_text}
+use Rattle.asm_printer.specs.ReadBack.{IsPrintable, on_lines}
+use Rattle.asm_printer.proofs.Kept.{applied-read}
+use Rattle.asm_printer.proofs.Listable.{straight-listable, read-concrete}
+use Rattle.asm_printer.proofs.Entries.{IsReadAgain}
+use Rattle.asm_printer.proofs.WrittenRegion.{region-reads, region-leaves, is-line_end}
 use Rattle.slothy_cli.specs.declared.stop.Stop.{Stop}
 use Rattle.slothy_cli.specs.declared.stop.Failure.{Failure}
 use Rattle.slothy_cli.specs.declared.stop.Failure.TheVariants.{Stopped, NoMemory}
+use Rattle.slothy_cli.specs.Command.{opt, wants_of}
+use Rattle.slothy_cli.specs.CostText.{plain_costs, region_problem}
+use Rattle.slothy_cli.specs.Fine.{AreFine}
 use Rattle.slothy_cli.specs.Shown.{Settles}
-use Rattle.slothy_cli.specs.Outcome.{Region, opt_problem, OptText, OptAnswers}
-use Rattle.slothy_cli.specs.ReadBack.{ArePlain, IsLineEnd, on_lines}
-use Rattle.sl_model.specs.Body.{applied}
-use Rattle.sl_model.specs.Legal.{body_of}
-use Rattle.slothy_cli.proofs.LineNumbers.{straight-reads, straight-reads_and_leaves}
-use Rattle.slothy_cli.proofs.PlainItems.{few-only_x}
-use Rattle.slothy_cli.proofs.PlainValid.{plain-all_valid}
-use Rattle.std.specs.Prelude.{reverse, codes, if◌then◌else◌}
+use Rattle.slothy_cli.specs.Outcome.{OptText, OptAnswers, wants_again}
+use Rattle.slothy_cli.proofs.OptChoices.{legal-length}
 
--- the end of the lines is one of the two
-is-line_end : (before : List ℕ) → IsLineEnd (line_end before)
-is-line_end before = of (ends_by_both (reverse before))
-  where
-    of : (b : Bool) → IsLineEnd (if b then codes "\r\n" else codes "\n")
-    of true = inr refl
-    of false = inl refl
+-- The problem of a region that `opt` takes can be listed.
+pub opt-listable : (language : Language) (latency : ℕ) (items : List Instr) → IsPrintable language.reads language.printed → AreFine language (wants_of (opt latency)) items → IsListable language.isa (region_problem latency items)
+opt-listable language latency items printable fine =
+    straight-listable language.isa items (plain_costs latency (length items)) fine.few (length-replicate (length items) _) fine.valid (fine.last refl)
+    (read-concrete language.reads language.printed items printable fine.read)
 
 -- The written file of the best schedule is the text.
-pub opt-text : (latency : ℕ) (region : Region) (schedule : List Choice) (text : List ℕ) → ArePlain region.items → IsBest few_isa (opt_problem latency region.items) 64 schedule
-    → text ≡ written_text region.parts (opt_problem latency region.items) schedule → OptText latency region text
-opt-text latency region schedule text plain best is =
+opt-text : (language : Language) (latency : ℕ) (region : Region) (schedule : List Choice) (text : List ℕ) → IsLawful language.isa → IsReadAgain language.reads language.printed → IsPrintable language.reads language.printed
+    → AreFine language (wants_of (opt latency)) region.items → IsBest language.isa (region_problem latency region.items) 64 schedule
+    → text ≡ written_text language.printed region.parts (region_problem latency region.items) schedule → OptText language latency region text
+opt-text language latency region schedule text lawful again printable fine best is =
     let items : List Instr = region.items in
     let costs = plain_costs latency (length items) in
-    let valid = plain-all_valid items plain in
+    let few : length schedule ≤ 8 = omega (arith, legal-length language.isa latency items schedule best.member.legal, fine.few) in
     record {
       schedule = schedule;
       best = best;
       text_is = is;
-      new = on_lines 2 (applied (body_of (opt_problem latency items)) schedule);
-      reads = straight-reads few_isa items (written items) [] costs schedule (line_end region.parts.before) valid plain few-only_x (is-line_end region.parts.before) best.member.legal;
-      same = λ s tags. straight-reads_and_leaves few_isa (λ flagged c. few_step (if flagged then Subs else Sub 1) c 0) items (written items) [] costs schedule s few_lawful valid best.member.legal tags;
+      new = on_lines 2 (applied (body_of (region_problem latency items)) schedule);
+      reads = region-reads language.reads language.printed (comments_of language.isa.name) wants_again (region_problem latency items) schedule (line_end region.parts.before) again printable refl refl few
+          (applied-read language.isa items (written items) [] costs (opt-listable language latency items printable fine) language.reads schedule fine.read best.member.legal.legal)
+          (is-line_end region.parts.before);
+      same = λ s tags. region-leaves language.isa (λ flagged c. language.step_of (if flagged then Subs else Sub 1) c 0) items (written items) [] costs schedule s lawful fine.valid best.member.legal tags;
     }
 
 -- Where the text is the written file of the best schedule, it is what `opt` answers.
-pub written-answers : (latency : ℕ) (region : Region) (schedule : List Choice) (answer : Result (List ℕ) Stop) → ArePlain region.items → IsBest few_isa (opt_problem latency region.items) 64 schedule
-    → answer ≡ Ok (written_text region.parts (opt_problem latency region.items) schedule) → OptAnswers latency region answer
-written-answers latency region schedule answer plain best is =
-    subst (OptAnswers latency region) (sym is)
-    (opt-text latency region schedule (written_text region.parts (opt_problem latency region.items) schedule) plain best refl)
+pub written-answers : (language : Language) (latency : ℕ) (region : Region) (schedule : List Choice) (answer : Result (List ℕ) Stop) → IsLawful language.isa → IsReadAgain language.reads language.printed → IsPrintable language.reads language.printed
+    → AreFine language (wants_of (opt latency)) region.items → IsBest language.isa (region_problem latency region.items) 64 schedule
+    → answer ≡ Ok (written_text language.printed region.parts (region_problem latency region.items) schedule) → OptAnswers language latency region answer
+written-answers language latency region schedule answer lawful again printable fine best is =
+    subst (OptAnswers language latency region) (sym is)
+    (opt-text language latency region schedule (written_text language.printed region.parts (region_problem latency region.items) schedule) lawful again printable fine best refl)
+
+-- What the search found is the best schedule of the region's problem.
+pub best-found : {V : Type 0} (view : V → List Choice) (isa : Isa) (latency : ℕ) (items given : List Instr) (problem : Problem) (found : Option V) (schedule : V)
+    → given ≡ items → problem ≡ region_problem latency given → found ≡ Some schedule
+    → MatchOption found ((x : List Choice) → InSpace isa problem 64 x → ⊥) (λ best. IsBest isa problem 64 (view best)) → IsBest isa (region_problem latency items) 64 (view schedule)
+best-found view isa latency items given problem found schedule same is here told =
+    subst (λ p. IsBest isa p 64 (view schedule)) (is ∙ ap (region_problem latency) same)
+    (subst (λ o. MatchOption o ((x : List Choice) → InSpace isa problem 64 x → ⊥) (λ best. IsBest isa problem 64 (view best))) here told)
 
 -- what settles one question settles another that it answers
 pub settles-weaken : {X Y : Type 0} (view : X → Y) (r : Result X Failure) (P Q : Result Y Stop → Type 0) → ((a : Result Y Stop) → P a → Q a) → Settles view r P → Settles view r Q

@@ -7,64 +7,64 @@ use Rattle.sl_model.specs.declared.instruction.Instr.{Instr}
 use Rattle.sl_model.specs.declared.schedule.Choice.{Choice}
 use Rattle.sl_model.specs.declared.schedule.CostRow.{CostRow}
 use Rattle.sl_model.specs.Cycles.{row_of}
+use Rattle.sl_model.specs.Isa.{Isa}
 use Rattle.sl_model.specs.Body.{is_placed}
 use Rattle.sl_model.specs.Legal.{IsLegalFrom, IsFullLegal, keeps_l6, numbers_below}
-use Rattle.machine_sem.specs.FewForms.{few_isa}
 use Rattle.legal_space.proofs.Forced.{keeps_rules}
 use Rattle.legal_space.proofs.ListingLemmas.{unplaced, unplaced-bound, unplaced-less}
 use Rattle.legal_space.proofs.Members.{length-numbers}
 use Rattle.legal_space.proofs.Units.{no_bit_past}
 use Rattle.renamer.proofs.OwnTests.{both}
 use Rattle.renamer.proofs.StraightNumbers.{below-lt}
-use Rattle.slothy_cli.specs.Outcome.{opt_problem}
+use Rattle.slothy_cli.specs.CostText.{region_problem}
 
 -- each choice is of an item
-known-from : (latency : ℕ) (items : List Instr) (done choices : List Choice) → IsLegalFrom few_isa (opt_problem latency items) done choices → list_all (λ c. nat_lt c.item (length items)) choices ≡ true
-known-from latency items done [] legal = refl
-known-from latency items done (c ∷ choices) legal =
+known-from : (isa : Isa) (latency : ℕ) (items : List Instr) (done choices : List Choice) → IsLegalFrom isa (region_problem latency items) done choices → list_all (λ c. nat_lt c.item (length items)) choices ≡ true
+known-from isa latency items done [] legal = refl
+known-from isa latency items done (c ∷ choices) legal =
     both (nat_lt c.item (length items)) (list_all (λ c. nat_lt c.item (length items)) choices)
     (lt-ltb c.item (length items) (below-lt (length items) c.item legal.0.of.known))
-    (known-from latency items (c ∷ done) choices legal.1)
+    (known-from isa latency items (c ∷ done) choices legal.1)
 
-pub legal-known : (latency : ℕ) (items : List Instr) (schedule : List Choice) → IsFullLegal few_isa (opt_problem latency items) schedule → list_all (λ c. nat_lt c.item (length items)) schedule ≡ true
-legal-known latency items schedule full = known-from latency items [] schedule full.legal
+pub legal-known : (isa : Isa) (latency : ℕ) (items : List Instr) (schedule : List Choice) → IsFullLegal isa (region_problem latency items) schedule → list_all (λ c. nat_lt c.item (length items)) schedule ≡ true
+legal-known isa latency items schedule full = known-from isa latency items [] schedule full.legal
 
 -- each item has one unit
-one-unit : (latency : ℕ) (items : List Instr) (c : Choice) → c.item < length items → (row_of (opt_problem latency items).costs c.item).units ≡ 1
+one-unit : (latency : ℕ) (items : List Instr) (c : Choice) → c.item < length items → (row_of (region_problem latency items).costs c.item).units ≡ 1
 one-unit latency items c within = ap (λ (row : CostRow). row.units) (get_or-replicate (length items) c.item _ _ within)
 
-unit-few : (latency : ℕ) (items : List Instr) (c : Choice) → c.item < length items → keeps_l6 (opt_problem latency items) c ≡ true → c.unit < 16
+unit-few : (latency : ℕ) (items : List Instr) (c : Choice) → c.item < length items → keeps_l6 (region_problem latency items) c ≡ true → c.unit < 16
 unit-few latency items c within keeps =
     ⊎_elim
     (λ (below : c.unit < 16). below)
     (λ (past : 16 ≤ c.unit).
-    let units = (row_of (opt_problem latency items).costs c.item).units in
+    let units = (row_of (region_problem latency items).costs c.item).units in
     let one : units ≡ 1 = one-unit latency items c within in
     let small : units < 2 ^ 16 = omega (arith, one) in
     absurd (true≢false (sym keeps ∙ sym (no_bit_past units c.unit small past))))
     (cases_lt c.unit 16)
 
-units-from : (latency : ℕ) (items : List Instr) (done choices : List Choice) → IsLegalFrom few_isa (opt_problem latency items) done choices → list_all (λ c. nat_lt c.unit 16) choices ≡ true
-units-from latency items done [] legal = refl
-units-from latency items done (c ∷ choices) legal =
+units-from : (isa : Isa) (latency : ℕ) (items : List Instr) (done choices : List Choice) → IsLegalFrom isa (region_problem latency items) done choices → list_all (λ c. nat_lt c.unit 16) choices ≡ true
+units-from isa latency items done [] legal = refl
+units-from isa latency items done (c ∷ choices) legal =
     both (nat_lt c.unit 16) (list_all (λ c. nat_lt c.unit 16) choices)
-    (lt-ltb c.unit 16 (unit-few latency items c (below-lt (length items) c.item legal.0.of.known) (keeps_rules few_isa (opt_problem latency items) done c legal.0.rules).l6))
-    (units-from latency items (c ∷ done) choices legal.1)
+    (lt-ltb c.unit 16 (unit-few latency items c (below-lt (length items) c.item legal.0.of.known) (keeps_rules isa (region_problem latency items) done c legal.0.rules).l6))
+    (units-from isa latency items (c ∷ done) choices legal.1)
 
 -- and on a unit below 16
-pub legal-units : (latency : ℕ) (items : List Instr) (schedule : List Choice) → IsFullLegal few_isa (opt_problem latency items) schedule → list_all (λ c. nat_lt c.unit 16) schedule ≡ true
-legal-units latency items schedule full = units-from latency items [] schedule full.legal
+pub legal-units : (isa : Isa) (latency : ℕ) (items : List Instr) (schedule : List Choice) → IsFullLegal isa (region_problem latency items) schedule → list_all (λ c. nat_lt c.unit 16) schedule ≡ true
+legal-units isa latency items schedule full = units-from isa latency items [] schedule full.legal
 
-length-from : (latency : ℕ) (items : List Instr) (done choices : List Choice) → IsLegalFrom few_isa (opt_problem latency items) done choices → length choices ≤ unplaced (numbers_below (length items)) done
-length-from latency items done [] legal = omega arith
-length-from latency items done (c ∷ choices) legal =
-    let fresh : is_placed done c.item ≡ false = not-true (is_placed done c.item) (keeps_rules few_isa (opt_problem latency items) done c legal.0.rules).l1 in
+length-from : (isa : Isa) (latency : ℕ) (items : List Instr) (done choices : List Choice) → IsLegalFrom isa (region_problem latency items) done choices → length choices ≤ unplaced (numbers_below (length items)) done
+length-from isa latency items done [] legal = omega arith
+length-from isa latency items done (c ∷ choices) legal =
+    let fresh : is_placed done c.item ≡ false = not-true (is_placed done c.item) (keeps_rules isa (region_problem latency items) done c legal.0.rules).l1 in
     let less : unplaced (numbers_below (length items)) (c ∷ done) < unplaced (numbers_below (length items)) done = unplaced-less (numbers_below (length items)) c done legal.0.of.known fresh in
-    let rest : length choices ≤ unplaced (numbers_below (length items)) (c ∷ done) = length-from latency items (c ∷ done) choices legal.1 in
+    let rest : length choices ≤ unplaced (numbers_below (length items)) (c ∷ done) = length-from isa latency items (c ∷ done) choices legal.1 in
     omega arith
 
 -- there are no more choices than items
-pub legal-length : (latency : ℕ) (items : List Instr) (schedule : List Choice) → IsFullLegal few_isa (opt_problem latency items) schedule → length schedule ≤ length items
-legal-length latency items schedule full =
-    let few : length schedule ≤ unplaced (numbers_below (length items)) [] = length-from latency items [] schedule full.legal in
+pub legal-length : (isa : Isa) (latency : ℕ) (items : List Instr) (schedule : List Choice) → IsFullLegal isa (region_problem latency items) schedule → length schedule ≤ length items
+legal-length isa latency items schedule full =
+    let few : length schedule ≤ unplaced (numbers_below (length items)) [] = length-from isa latency items [] schedule full.legal in
     omega (arith, few, unplaced-bound (numbers_below (length items)) [], length-numbers (length items))

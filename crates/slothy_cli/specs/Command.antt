@@ -1,22 +1,22 @@
 -- What the words of a command ask for.
-use Rattle.std.specs.Prelude.{ℕ, Bool, true, false, ◌+◌, ◌-◌, ◌*◌, ◌==◌, ◌&&◌, not, nat_eq, nat_le, List, [], ◌∷◌, drop, codes, Option, None, Some, if◌then◌else◌}
+use Rattle.std.specs.Prelude.{◌≤◌, ℕ, Bool, true, false, ◌+◌, ◌-◌, ◌*◌, ◌==◌, ◌&&◌, not, nat_eq, nat_le, List, [], ◌∷◌, drop, codes, Option, None, Some, if◌then◌else◌}
 use Rattle.std.specs.List.{starts_with, list_all}
 use Rattle.std.specs.Option.{option_map}
 use Rattle.std.specs.Str.{bytes_eq}
 use Rattle.std.specs.Char.{is_ascii_digit}
-use Rattle.slothy_cli.specs.declared.command.Wants.{Wants}
-use Rattle.slothy_cli.specs.declared.command.Mode.{Mode}
-use Rattle.slothy_cli.specs.declared.command.Mode.TheVariants.{Cost, Opt}
+use Rattle.asm_reader.specs.declared.reasons.Wants.{Wants}
 
--- what is to be done, the file, and the latency of the one-wide core
+-- What is to be done: the costs or the best schedule on a one-wide core of a latency, or a run from the state of a file, of so
+-- many turns of a loop.
+pub data Task : Type 0 where
+  cost : ℕ → Task
+  opt : ℕ → Task
+  emulate : List ℕ → ℕ → Task
+
+-- what is to be done, and the file
 pub record Command : Type 0 where
-  pub mode : Mode
+  pub task : Task
   pub name : List ℕ
-  pub latency : ℕ
-
--- the mode that a word names
-abbrev pub mode_of : List ℕ → Option Mode
-mode_of word = if bytes_eq word (codes "cost") then Some Cost else (if bytes_eq word (codes "opt") then Some Opt else None)
 
 -- the number that decimal digits spell, behind the digits of another number
 abbrev pub digits_from : ℕ → List ℕ → ℕ
@@ -41,18 +41,68 @@ abbrev pub is_name : List ℕ → Bool
 is_name [] = false
 is_name (c ∷ name) = not (c == 45)
 
--- the command of a mode, a name and a core, where both words are right
-abbrev pub command_from : List ℕ → Option Mode → Option ℕ → Option Command
-command_from name None latency = None
-command_from name (Some mode) latency = option_map (λ cycles. record { mode = mode; name = name; latency = cycles }) latency
+-- the latency that `--core one:L` gives
+abbrev pub core_of : List (List ℕ) → Option ℕ
+core_of (option ∷ core ∷ []) = if bytes_eq option (codes "--core") then latency_of core else None
+core_of words = None
 
--- `cost NAME --core CORE` or `opt NAME --core CORE`, behind the program's name; all other words are wrong use
+-- Do these spell a number: digits alone, and the first of several isn't 0?
+abbrev pub is_number : List ℕ → Bool
+is_number [] = false
+is_number (c ∷ []) = is_ascii_digit c
+is_number (c ∷ d ∷ digits) = is_counting (c ∷ d ∷ digits)
+
+-- the number of turns, at most 10000000
+unfoldable pub turns_of : List ℕ → Option ℕ
+turns_of digits = if is_number digits && nat_le (digits_from 0 digits) 10000000 then Some (digits_from 0 digits) else None
+
+-- the name of a state file
+abbrev pub state_of : List ℕ → Option (List ℕ)
+state_of word = if is_name word then Some word else None
+
+-- a run from the state of a file, with so many turns
+abbrev pub emulation : Option (List ℕ) → Option ℕ → Option Task
+emulation None turns = None
+emulation (Some state) turns = option_map (λ n. emulate state n) turns
+
+-- what `--state STATE` asks for, and `--turns N` beside it, in either order
+abbrev pub run_of : List (List ℕ) → Option Task
+run_of (option ∷ value ∷ []) = if bytes_eq option (codes "--state") then emulation (state_of value) (Some 1000000) else None
+run_of (first ∷ one ∷ second ∷ other ∷ []) =
+    if bytes_eq first (codes "--state") && bytes_eq second (codes "--turns") then emulation (state_of one) (turns_of other)
+    else (if bytes_eq first (codes "--turns") && bytes_eq second (codes "--state") then emulation (state_of other) (turns_of one) else None)
+run_of words = None
+
+-- what a mode asks for with its options
+abbrev pub task_of : List ℕ → List (List ℕ) → Option Task
+task_of mode options =
+    if bytes_eq mode (codes "cost") then option_map cost (core_of options)
+    else (if bytes_eq mode (codes "opt") then option_map opt (core_of options)
+    else (if bytes_eq mode (codes "run") then run_of options else None))
+
+-- the command of a name and what is to be done, where both are right
+abbrev pub command_from : List ℕ → Option Task → Option Command
+command_from name task = option_map (λ what. record { task = what; name = name }) task
+
+-- A mode, a name and options, behind the program's name; all other words are wrong use.
 unfoldable pub command_of : List (List ℕ) → Option Command
-command_of (program ∷ mode ∷ name ∷ option ∷ core ∷ []) =
-    if is_name name && bytes_eq option (codes "--core") then command_from name (mode_of mode) (latency_of core) else None
+command_of (program ∷ mode ∷ name ∷ options) = if is_name name then command_from name (task_of mode options) else None
 command_of words = None
 
--- what the modes want of a region: `cost` at most 64 items; `opt` at most 8, which write each register once
-abbrev pub wants_of : Mode → Wants
-wants_of Cost = record { limit = 64; once = false }
-wants_of Opt = record { limit = 8; once = true }
+-- what is wanted of a region: at most 64 items; by `opt` at most 8, which write each register once; notes aren't read yet
+abbrev pub wants_of : Task → Wants
+wants_of (cost latency) = record { limit = 64; once = false; no_notes = true }
+wants_of (opt latency) = record { limit = 8; once = true; no_notes = true }
+wants_of (emulate state turns) = record { limit = 64; once = false; no_notes = true }
+
+-- A latency is at least 1, where there is one.
+abbrev pub HasLatency : Task → Type 0
+HasLatency (cost latency) = 1 ≤ latency
+HasLatency (opt latency) = 1 ≤ latency
+HasLatency (emulate state turns) = Unit {0}
+
+-- the name of the state file, where one is read
+abbrev pub state_name : Task → Option (List ℕ)
+state_name (cost latency) = None
+state_name (opt latency) = None
+state_name (emulate state turns) = Some state

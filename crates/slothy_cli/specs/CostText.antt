@@ -4,10 +4,9 @@ use Rattle.std.specs.Fmt.{decimal}
 use Rattle.sl_model.specs.declared.instruction.Instr.{Instr}
 use Rattle.sl_model.specs.declared.schedule.Choice.{Choice}
 use Rattle.sl_model.specs.declared.schedule.CostRow.{CostRow}
-use Rattle.sl_model.specs.Source.{item_at, list_sources}
+use Rattle.sl_model.specs.Source.{item_at}
 use Rattle.sl_model.specs.Cycles.{CostTable, Issued, timed, cycle_count, cycles_of, stalls}
-use Rattle.sl_model.specs.Legal.{numbers_below}
-use Rattle.sl_isa.specs.ThreeForms.{spelling, plain_of}
+use Rattle.sl_model.specs.Legal.{Problem, numbers_below, sources_in, written, straight_problem}
 
 -- The core `one:L`: one unit takes an item in each cycle, keeps it for one, and each result is ready after L cycles.
 abbrev pub plain_row : ℕ → CostRow
@@ -15,6 +14,10 @@ plain_row latency = record { class = 0; units = 1; busy = 1; latency = latency; 
 
 abbrev pub plain_costs : ℕ → ℕ → CostTable
 plain_costs latency items = record { width = 1; rows = replicate items (plain_row latency); forwards = [] }
+
+-- The problem of a region: all registers that it writes are live-out, and none is free.
+abbrev pub region_problem : ℕ → List Instr → Problem
+region_problem latency items = straight_problem items (written items) [] (plain_costs latency (length items))
 
 -- an item where it stands: on the one unit, its outputs in their own registers
 abbrev pub own_choice : List Instr → ℕ → Choice
@@ -26,18 +29,21 @@ own_schedule items = map (own_choice items) (numbers_below (length items))
 
 -- when they are issued, the last first
 unfoldable pub own_times : ℕ → List Instr → List Issued
-own_times latency items = timed (plain_costs latency (length items)) (list_sources items) (own_schedule items)
+own_times latency items = timed (plain_costs latency (length items)) (sources_in (region_problem latency items)) (own_schedule items)
 
--- the line of an item: its cycle, its unit, its number, its line in the file, and how it is printed
-abbrev pub cost_line : ℕ → Instr → ℕ → List ℕ
-cost_line number i cycle =
-    codes "c=" ++ (decimal cycle ++ (codes " u=u i=" ++ (decimal number ++ (codes " line=" ++ (decimal i.line ++ (codes " " ++ (spelling (plain_of i) ++ codes "\n")))))))
+-- the numbers of an item: its cycle, its unit, its number, and its line in the file
+abbrev pub cost_numbers : ℕ → ℕ → ℕ → List ℕ
+cost_numbers cycle number line = codes "c=" ++ (decimal cycle ++ (codes " u=u i=" ++ (decimal number ++ (codes " line=" ++ (decimal line ++ codes " ")))))
+
+-- the line of an item: its numbers, and how it is printed
+abbrev pub cost_line : (Instr → List ℕ) → ℕ → Instr → ℕ → List ℕ
+cost_line printed number i cycle = cost_numbers cycle number i.line ++ (printed i ++ codes "\n")
 
 -- the lines of items from a number on, with their cycles
-unfoldable pub cost_lines : ℕ → List Instr → List ℕ → List ℕ
-cost_lines number [] cycles = []
-cost_lines number (i ∷ items) [] = []
-cost_lines number (i ∷ items) (cycle ∷ cycles) = cost_line number i cycle ++ cost_lines (number + 1) items cycles
+unfoldable pub cost_lines : (Instr → List ℕ) → ℕ → List Instr → List ℕ → List ℕ
+cost_lines printed number [] cycles = []
+cost_lines printed number (i ∷ items) [] = []
+cost_lines printed number (i ∷ items) (cycle ∷ cycles) = cost_line printed number i cycle ++ cost_lines printed (number + 1) items cycles
 
 -- how many items there are, the cycles that they take and the stalls among these
 abbrev pub cost_head : ℕ → ℕ → ℕ → List ℕ
@@ -45,9 +51,9 @@ cost_head items cycles stalled =
     codes "kind=straight n=" ++ (decimal items ++ (codes " cycles=" ++ (decimal cycles ++ (codes " stalls=" ++ (decimal stalled ++ codes "\n")))))
 
 -- the text of `cost` for items that are issued so, the last first: its head, and a line for each item
-abbrev pub text_of : List Instr → List Issued → List ℕ
-text_of items times = cost_head (length items) (cycle_count times) (stalls 1 times) ++ cost_lines 0 items (cycles_of times)
+abbrev pub text_of : (Instr → List ℕ) → List Instr → List Issued → List ℕ
+text_of printed items times = cost_head (length items) (cycle_count times) (stalls 1 times) ++ cost_lines printed 0 items (cycles_of times)
 
 -- the text of `cost`
-unfoldable pub cost_text : ℕ → List Instr → List ℕ
-cost_text latency items = text_of items (own_times latency items)
+unfoldable pub cost_text : (Instr → List ℕ) → ℕ → List Instr → List ℕ
+cost_text printed latency items = text_of printed items (own_times latency items)

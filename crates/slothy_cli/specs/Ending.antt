@@ -2,6 +2,7 @@
 use Rattle.std.specs.Prelude.{ℕ, Bool, true, false, ◌≡◌, ◌<◌, List, [], length, take, Option, None, Some, Result, Ok, Err, MatchOption, IfSome, MatchBool, ◌⊎◌}
 use Rattle.std.specs.Io.KnownBytes.{append_known}
 use Rattle.sl_base.specs.Faults.{HasRisen}
+use Rattle.sl_isa.specs.Arch.{Language}
 use Rattle.slothy_cli.specs.declared.stop.Quantity.TheVariants as quantities
 use Rattle.slothy_cli.specs.declared.stop.Stop.{Stop}
 use Rattle.slothy_cli.specs.declared.stop.Stop.TheVariants as stops
@@ -9,9 +10,11 @@ use Rattle.slothy_cli.specs.declared.status.Status.{Status}
 use Rattle.slothy_cli.specs.declared.status.Status.TheVariants as statuses
 use Rattle.slothy_cli.specs.declared.status.Ending.{Ending}
 use Rattle.slothy_cli.specs.declared.status.Ending.TheVariants.{Done, Usage, Stopped, ReadFault, WriteFault, NoMemory}
-use Rattle.slothy_cli.specs.Command.{Command, command_of}
-use Rattle.slothy_cli.specs.Outcome.{CommandAnswers}
-use Rattle.slothy_cli.specs.Messages.{stop_status, message_of}
+use Rattle.slothy_cli.specs.declared.stop.File.{File}
+use Rattle.slothy_cli.specs.declared.stop.File.TheVariants as which
+use Rattle.slothy_cli.specs.Command.{Task, cost, opt, emulate, Command, command_of}
+use Rattle.slothy_cli.specs.Outcome.{Bytes, CommandAnswers}
+use Rattle.slothy_cli.specs.Messages.{Names, name_in, stop_status, message_of}
 
 -- what is seen of the files over a call: how many calls on them had failed before and after it, and as it ends the
 -- bytes given since the last choice, the chosen name, and whether a call on the chosen file failed
@@ -44,65 +47,105 @@ pub record TookFront (sink : SinkRun) (text : List ℕ) : Type 0 where
 abbrev pub AreOf : Option (List ℕ) → List ℕ → Type 0
 AreOf known bytes = IfSome known (λ told. told ≡ bytes)
 
+-- what is known of the bytes of a command's files; where no state file is read, it has none
+pub record Known : Type 0 where
+  pub input : Option (List ℕ)
+  pub state : Option (List ℕ)
+
+abbrev pub state_known : Task → (List ℕ → Option (List ℕ)) → Option (List ℕ)
+state_known (cost latency) holds = Some []
+state_known (opt latency) holds = Some []
+state_known (emulate state turns) holds = holds state
+
+abbrev pub known_of : Command → (List ℕ → Option (List ℕ)) → Known
+known_of c holds = record { input = holds c.name; state = state_known c.task holds }
+
+abbrev pub AreBytesOf : Known → Bytes → Type 0
+AreBytesOf known bytes = AreOf known.input bytes.input × AreOf known.state bytes.state
+
+-- the name of a command's file
+abbrev pub state_text_name : Task → List ℕ
+state_text_name (cost latency) = []
+state_text_name (opt latency) = []
+state_text_name (emulate state turns) = state
+
+abbrev pub names_of_command : Command → Names
+names_of_command c = record { input = c.name; state = state_text_name c.task }
+
+abbrev pub file_name : Command → File → List ℕ
+file_name c file = name_in (names_of_command c) file
+
 abbrev pub is_file_limit : Stop → Bool
-is_file_limit (stops.Refused line reason) = false
-is_file_limit (stops.TooLarge line quantities.File limit) = true
-is_file_limit (stops.TooLarge line quantities.Items limit) = false
+is_file_limit (stops.Refused file line reason) = false
+is_file_limit (stops.TooLarge file line quantities.File limit) = true
+is_file_limit (stops.TooLarge file line quantities.Items limit) = false
 is_file_limit (stops.Infeasible most) = false
 
--- There is a text for the bytes of the file.
-pub record HasText (c : Command) (known : Option (List ℕ)) (text : List ℕ) : Type 0 where
-  pub bytes : List ℕ
-  pub bytes_of_file : AreOf known bytes
-  pub answers : CommandAnswers c bytes (Ok text)
+-- the file that a stop speaks of
+abbrev pub file_of : Stop → File
+file_of (stops.Refused file line reason) = file
+file_of (stops.TooLarge file line quantity limit) = file
+file_of (stops.Infeasible most) = which.Input
 
--- There is no text for the bytes of the file.
-pub record HasStop (c : Command) (known : Option (List ℕ)) (stop : Stop) : Type 0 where
-  pub bytes : List ℕ
-  pub bytes_of_file : AreOf known bytes
-  pub answers : CommandAnswers c bytes (Err stop)
+-- The bytes of the files up to this one are known to be these.
+abbrev pub AreTold : File → Known → Bytes → Type 0
+AreTold which.Input known bytes = known.input ≡ Some bytes.input
+AreTold which.State known bytes = (known.input ≡ Some bytes.input) × (known.state ≡ Some bytes.state)
 
--- why there is no text for a command and its file, whose bytes may be known
-abbrev pub HasCause : Command → Option (List ℕ) → FilesRun → Ending → Type 0
--- the file's bytes have none; of a file that is too long, more than the limit was read
-HasCause c known files (Stopped stop) =
-    MatchBool (is_file_limit stop) ((files.chosen ≡ c.name) × (1048576 < files.given) × IfSome known (λ bytes. CommandAnswers c bytes (Err stop)))
-    (HasStop c known stop)
+-- There is a text for the bytes of the files.
+pub record HasText (language : Language) (c : Command) (known : Known) (text : List ℕ) : Type 0 where
+  pub bytes : Bytes
+  pub bytes_of_files : AreBytesOf known bytes
+  pub answers : CommandAnswers language c bytes (Ok text)
+
+-- There is no text for the bytes of the files.
+pub record HasStop (language : Language) (c : Command) (known : Known) (stop : Stop) : Type 0 where
+  pub bytes : Bytes
+  pub bytes_of_files : AreBytesOf known bytes
+  pub answers : CommandAnswers language c bytes (Err stop)
+
+-- why there is no text for a command and its files, whose bytes may be known
+abbrev pub HasCause : Language → Command → Known → FilesRun → Ending → Type 0
+-- the files' bytes have none; of a file that is too long, more than the limit was read
+HasCause language c known files (Stopped stop) =
+    MatchBool (is_file_limit stop)
+    ((files.chosen ≡ file_name c (file_of stop)) × (1048576 < files.given) × ((bytes : Bytes) → AreTold (file_of stop) known bytes → CommandAnswers language c bytes (Err stop)))
+    (HasStop language c known stop)
 -- a call on the files failed, and it was one on this file
-HasCause c known files ReadFault = HasRisen files.faults_before files.faults_after × (files.chosen ≡ c.name) × (files.broken ≡ true)
+HasCause language c known files (ReadFault file) = HasRisen files.faults_before files.faults_after × (files.chosen ≡ file_name c file) × (files.broken ≡ true)
 -- want of memory has no cause
-HasCause c known files NoMemory = Unit {0}
-HasCause c known files Done = ⊥
-HasCause c known files Usage = ⊥
-HasCause c known files (WriteFault sent) = ⊥
+HasCause language c known files NoMemory = Unit {0}
+HasCause language c known files Done = ⊥
+HasCause language c known files Usage = ⊥
+HasCause language c known files (WriteFault sent) = ⊥
 
 -- The ending of a command that isn't wrong has its cause, and says what the output took.
-abbrev pub Ends : Command → Option (List ℕ) → FilesRun → SinkRun → Ending → Type 0
--- the text of the file's bytes was written whole
-Ends c known files out Done = (text : List ℕ) × HasText c known text × (out.after ≡ append_known out.before text)
+abbrev pub Ends : Language → Command → Known → FilesRun → SinkRun → Ending → Type 0
+-- the text of the files' bytes was written whole
+Ends language c known files out Done = (text : List ℕ) × HasText language c known text × (out.after ≡ append_known out.before text)
 -- a call on the output failed, which had taken so many bytes of the text
-Ends c known files out (WriteFault sent) =
-    HasRisen out.faults_before out.faults_after × ((text : List ℕ) × HasText c known text × (sent < length text) × (out.after ≡ append_known out.before (take sent text)))
+Ends language c known files out (WriteFault sent) =
+    HasRisen out.faults_before out.faults_after × ((text : List ℕ) × HasText language c known text × (sent < length text) × (out.after ≡ append_known out.before (take sent text)))
 -- there is no text, and nothing was written
-Ends c known files out (Stopped stop) = HasCause c known files (Stopped stop) × TookNothing out
-Ends c known files out ReadFault = HasCause c known files ReadFault × TookNothing out
-Ends c known files out NoMemory = HasCause c known files NoMemory × TookNothing out
+Ends language c known files out (Stopped stop) = HasCause language c known files (Stopped stop) × TookNothing out
+Ends language c known files out (ReadFault file) = HasCause language c known files (ReadFault file) × TookNothing out
+Ends language c known files out NoMemory = HasCause language c known files NoMemory × TookNothing out
 -- the words aren't wrong
-Ends c known files out Usage = ⊥
+Ends language c known files out Usage = ⊥
 
--- the name of the file that words give, if they are right
-abbrev pub name_of : Option Command → List ℕ
-name_of None = []
-name_of (Some c) = c.name
+-- the names of the files that words give, if they are right
+abbrev pub names_given : Option Command → Names
+names_given None = record { input = []; state = [] }
+names_given (Some c) = names_of_command c
 
 -- A call with these words, on files of which `holds` tells what is known, ended so.
-pub record Call (words : List (List ℕ)) (holds : List ℕ → Option (List ℕ)) (files : FilesRun) (out err : SinkRun) (ending : Ending) : Type 0 where
-  -- wrong use exactly where the words are wrong, and else an ending of `cost` with its cause
-  pub cause : MatchOption (command_of words) ((ending ≡ Usage) × TookNothing out) (λ c. Ends c (holds c.name) files out ending)
+pub record Call (language : Language) (words : List (List ℕ)) (holds : List ℕ → Option (List ℕ)) (files : FilesRun) (out err : SinkRun) (ending : Ending) : Type 0 where
+  -- wrong use exactly where the words are wrong, and else an ending of the command with its cause
+  pub cause : MatchOption (command_of words) ((ending ≡ Usage) × TookNothing out) (λ c. Ends language c (known_of c holds) files out ending)
   -- the error output took the ending's message
-  pub message : TookFront err (message_of (name_of (command_of words)) ending)
+  pub message : TookFront err (message_of (names_given (command_of words)) ending)
 
--- Is this a status for a file whose bytes are known to have this answer? Faults and want of memory come in between.
+-- Is this a status for files whose bytes are known to have this answer? Faults and want of memory come in between.
 abbrev pub IsStatusOf : Result (List ℕ) Stop → Status → Type 0
 IsStatusOf (Ok text) statuses.Done = Unit {0}
 IsStatusOf (Err stop) statuses.Done = ⊥
@@ -128,5 +171,5 @@ Delivers out text (WriteFault sent) =
     HasRisen out.faults_before out.faults_after × (sent < length text) × (out.after ≡ append_known out.before (take sent text))
 Delivers out text Usage = ⊥
 Delivers out text (Stopped stop) = ⊥
-Delivers out text ReadFault = ⊥
+Delivers out text (ReadFault file) = ⊥
 Delivers out text NoMemory = ⊥

@@ -2,8 +2,12 @@
 use Rattle.std.specs.Prelude.{ℕ, List, [], ◌∷◌, codes}
 use Rattle.std.specs.Fmt.{decimal}
 use Rattle.sl_model.specs.Text.{joined}
+use Rattle.sl_isa.specs.declared.reasons.FormReason.{FormReason}
+use Rattle.sl_isa.specs.declared.reasons.FormReason.TheVariants as forms
 use Rattle.slothy_cli.specs.declared.stop.Reason.{Reason}
 use Rattle.slothy_cli.specs.declared.stop.Reason.TheVariants as reasons
+use Rattle.slothy_cli.specs.declared.stop.File.{File}
+use Rattle.slothy_cli.specs.declared.stop.File.TheVariants as files
 use Rattle.slothy_cli.specs.declared.stop.Quantity.{Quantity}
 use Rattle.slothy_cli.specs.declared.stop.Quantity.TheVariants as quantities
 use Rattle.slothy_cli.specs.declared.stop.Stop.{Stop}
@@ -28,8 +32,8 @@ code_of statuses.TooLarge = 9
 code_of statuses.TurnsSpent = 10
 
 abbrev pub stop_status : Stop → Status
-stop_status (stops.Refused line reason) = statuses.Refused
-stop_status (stops.TooLarge line quantity limit) = statuses.TooLarge
+stop_status (stops.Refused file line reason) = statuses.Refused
+stop_status (stops.TooLarge file line quantity limit) = statuses.TooLarge
 stop_status (stops.Infeasible most) = statuses.Infeasible
 
 -- the status of an ending
@@ -37,9 +41,16 @@ abbrev pub status_of : Ending → Status
 status_of endings.Done = statuses.Done
 status_of endings.Usage = statuses.Usage
 status_of (endings.Stopped stop) = stop_status stop
-status_of endings.ReadFault = statuses.ReadFault
+status_of (endings.ReadFault file) = statuses.ReadFault
 status_of (endings.WriteFault sent) = statuses.WriteFault
 status_of endings.NoMemory = statuses.NoMemory
+
+abbrev pub form_text : FormReason → List ℕ
+form_text forms.UnknownMnemonic = codes "UnknownMnemonic"
+form_text forms.BadOperand = codes "BadOperand"
+form_text forms.ImmediateRange = codes "ImmediateRange"
+form_text forms.RegisterClass = codes "RegisterClass"
+form_text forms.SameRegister = codes "SameRegister"
 
 abbrev pub reason_text : Reason → List ℕ
 reason_text reasons.NotText = codes "NotText"
@@ -47,24 +58,35 @@ reason_text reasons.NoStart = codes "NoStart"
 reason_text reasons.NoEnd = codes "NoEnd"
 reason_text reasons.Twice = codes "Twice"
 reason_text reasons.NotYet = codes "NotYet"
+reason_text (reasons.Form form) = form_text form
+reason_text reasons.StateBad = codes "StateBad"
 
 abbrev pub quantity_text : Quantity → List ℕ
 quantity_text quantities.File = codes "file"
 quantity_text quantities.Items = codes "items"
 
--- the line that says why a file has no text
-abbrev pub stop_message : List ℕ → Stop → List ℕ
-stop_message name (stops.Refused line reason) =
-    joined (codes "slothy: " ∷ name ∷ codes ":" ∷ decimal line ∷ codes ": refused: " ∷ reason_text reason ∷ codes "\n" ∷ [])
-stop_message name (stops.TooLarge line quantity limit) =
-    joined (codes "slothy: " ∷ name ∷ codes ":" ∷ decimal line ∷ codes ": too large: " ∷ quantity_text quantity ∷ codes " limit=" ∷ decimal limit ∷ codes "\n" ∷ [])
-stop_message name (stops.Infeasible most) = joined (codes "slothy: infeasible up to " ∷ decimal most ∷ codes " stalls\n" ∷ [])
+-- the names of a command's files
+pub record Names : Type 0 where
+  pub input : List ℕ
+  pub state : List ℕ
 
--- the line on standard error of an ending, where the file has this name; there is none where all went well
-unfoldable pub message_of : List ℕ → Ending → List ℕ
-message_of name endings.Done = joined []
-message_of name endings.Usage = joined (codes "slothy: usage: slothy MODE [INPUT] [OPTIONS]\n" ∷ [])
-message_of name (endings.Stopped stop) = stop_message name stop
-message_of name endings.ReadFault = joined (codes "slothy: read fault: " ∷ name ∷ codes "\n" ∷ [])
-message_of name (endings.WriteFault sent) = joined (codes "slothy: write fault after " ∷ decimal sent ∷ codes " bytes\n" ∷ [])
-message_of name endings.NoMemory = joined (codes "slothy: no memory\n" ∷ [])
+abbrev pub name_in : Names → File → List ℕ
+name_in names files.Input = names.input
+name_in names files.State = names.state
+
+-- the line that says why a file has no text
+abbrev pub stop_message : Names → Stop → List ℕ
+stop_message names (stops.Refused file line reason) =
+    joined (codes "slothy: " ∷ name_in names file ∷ codes ":" ∷ decimal line ∷ codes ": refused: " ∷ reason_text reason ∷ codes "\n" ∷ [])
+stop_message names (stops.TooLarge file line quantity limit) =
+    joined (codes "slothy: " ∷ name_in names file ∷ codes ":" ∷ decimal line ∷ codes ": too large: " ∷ quantity_text quantity ∷ codes " limit=" ∷ decimal limit ∷ codes "\n" ∷ [])
+stop_message names (stops.Infeasible most) = joined (codes "slothy: infeasible up to " ∷ decimal most ∷ codes " stalls\n" ∷ [])
+
+-- the line on standard error of an ending, where the files have these names; there is none where all went well
+unfoldable pub message_of : Names → Ending → List ℕ
+message_of names endings.Done = joined []
+message_of names endings.Usage = joined (codes "slothy: usage: slothy MODE [INPUT] [OPTIONS]\n" ∷ [])
+message_of names (endings.Stopped stop) = stop_message names stop
+message_of names (endings.ReadFault file) = joined (codes "slothy: read fault: " ∷ name_in names file ∷ codes "\n" ∷ [])
+message_of names (endings.WriteFault sent) = joined (codes "slothy: write fault after " ∷ decimal sent ∷ codes " bytes\n" ∷ [])
+message_of names endings.NoMemory = joined (codes "slothy: no memory\n" ∷ [])

@@ -10,18 +10,19 @@ use Rattle.slothy_cli.specs.declared.status.Ending.{Ending}
 use Rattle.slothy_cli.specs.declared.status.Ending.TheVariants as endings
 use Rattle.sl_base.specs.declared.reading.ReadErr.{ReadErr}
 use Rattle.sl_base.specs.declared.reading.ReadErr.TheVariants as errors
-use Rattle.slothy_cli.specs.declared.region.Region as regions
-use Rattle.sl_text.specs.Cut.{parts_of}
-use Rattle.slothy_cli.specs.Command.{Command}
-use Rattle.slothy_cli.specs.Outcome.{Region}
+use Rattle.slothy_cli.specs.declared.command.Task as tasks
+use Rattle.slothy_cli.specs.declared.command.Task.TheVariants as task
+use Rattle.slothy_cli.specs.declared.stop.File.{File}
+use Rattle.slothy_cli.specs.Command.{Task, cost, opt, emulate, Command}
 
--- a command without where its name lies in memory
+-- a command without where its names lie in memory
+abbrev pub shown_task : tasks.Task → Task
+shown_task (task.Cost latency) = cost latency
+shown_task (task.Opt latency) = opt latency
+shown_task (task.Run state turns) = emulate state.now turns
+
 abbrev pub shown : words.Command → Command
-shown c = record { mode = c.mode; name = c.name.now; latency = c.latency }
-
--- a region without where it lies in memory
-abbrev pub region_of : regions.Region → Region
-region_of region = record { parts = parts_of region.cut; items = region.items.items }
+shown c = record { task = shown_task c.task; name = c.name.now }
 
 -- What a function returned, seen by `view`, is the answer of a definition.
 abbrev pub Answers : {X Y : Type 0} → (X → Y) → Result X Stop → Result Y Stop → Type 0
@@ -45,10 +46,10 @@ Settles view (Err (Stopped stop)) IsAnswer = IsAnswer (Err stop)
 Settles view (Err NoMemory) IsAnswer = Unit {0}
 
 -- how a file that couldn't be read ends a call
-abbrev pub unread_ending : ReadErr → Ending
-unread_ending errors.ReadFault = endings.ReadFault
-unread_ending (errors.TooLong limit) = endings.Stopped (TooLarge 0 quantities.File 1048576)
-unread_ending errors.NoMemory = endings.NoMemory
+abbrev pub unread_ending : File → ReadErr → Ending
+unread_ending file errors.ReadFault = endings.ReadFault file
+unread_ending file (errors.TooLong limit) = endings.Stopped (TooLarge file 0 quantities.File 1048576)
+unread_ending file errors.NoMemory = endings.NoMemory
 
 -- how a failure ends a call
 abbrev pub failed_ending : Failure → Ending

@@ -2,54 +2,50 @@
 ghost use Rattle.std.specs.Prelude.{◌≡◌, ◌≤◌, List, ℕ, map, Option, Some, None, string_bytes, option_map, IfSome};
 ghost use Rattle.std.specs.List.{list_all};
 ghost use Rattle.std.specs.Char.{is_ascii_digit};
-ghost use Rattle.slothy_cli.specs.Shown.{shown};
-ghost use Rattle.slothy_cli.specs.Command.{mode_of, wants_of, command_of, latency_of, latency_from, is_counting, is_name};
+ghost use Rattle.slothy_cli.specs.Shown.{shown, shown_task};
+ghost use Rattle.slothy_cli.specs.Command.{HasLatency, wants_of, core_of, is_number, turns_of, state_of, emulation, run_of, task_of, command_of, latency_of, latency_from, is_counting, is_name};
+
+use asm_reader::Wants;
 
 /// What a command does.
-#[derive(Clone, Copy, Debug, PartialEq, Eq)]
-pub enum Mode {
-    /// Says what the region costs as it stands.
-    Cost,
-    /// Writes the file with the region rescheduled.
-    Opt,
+#[derive(Clone, Copy, Debug)]
+pub enum Task<'a> {
+    /// Says what the region costs as it stands, on the core with a latency from 1 to 255 cycles.
+    Cost { latency: u8 },
+    /// Writes the file with the region rescheduled for that core.
+    Opt { latency: u8 },
+    /// Runs the region on the state of a file. A loop may run at most so many turns.
+    Run { state: &'a str, turns: u32 },
 }
 
-/// What a mode wants of a region.
-#[derive(Clone, Copy, Debug, PartialEq, Eq)]
-pub struct Wants {
-    /// The most instructions.
-    pub limit: usize,
-    /// Is each register to be written once?
-    pub once: bool,
-}
-
-impl Mode {
-    /// What the mode wants of a region: `cost` at most 64 instructions, `opt` at most 8, which write each register once.
-    pub fn wants(self) -> Wants
-        ensures { result ≡ wants_of self }
+impl Task<'_> {
+    /// What is wanted of a region: at most 64 instructions; by `opt` at most 8, which write each register once. Notes aren't
+    /// read yet, and are refused.
+    pub fn wants(&self) -> Wants
+        ensures { result ≡ wants_of (shown_task self.now) }
     {
         match self {
-            Mode::Cost => Wants {
-                limit: 64,
-                once: false,
-            },
-            Mode::Opt => Wants {
+            Task::Opt { .. } => Wants {
                 limit: 8,
                 once: true,
+                no_notes: true,
+            },
+            _ => Wants {
+                limit: 64,
+                once: false,
+                no_notes: true,
             },
         }
     }
 }
 
-/// `cost NAME --core one:L` or `opt NAME --core one:L`.
+/// `cost NAME --core one:L`, `opt NAME --core one:L`, or `run NAME --state STATE`, to which `--turns N` may be added.
 #[derive(Clone, Copy, Debug)]
 pub struct Command<'a> {
     /// What is to be done.
-    pub mode: Mode,
+    pub task: Task<'a>,
     /// The name of the file.
     pub name: &'a str,
-    /// The latency of the core, from 1 to 255 cycles.
-    pub latency: u8,
 }
 
 // Are these all digits?
@@ -100,13 +96,107 @@ fn is_name(word: &str) -> bool
     *first != b'-'
 }
 
-// The mode that a word names.
-fn mode_of(word: &str) -> Option<Mode>
-    ensures { result ≡ mode_of word.now }
+// The latency that `--core one:L` gives.
+fn core_of(options: &[String]) -> Option<u8>
+    ensures value { result ≡ core_of (map string_bytes options.now) }
+    ensures least { IfSome result (λ latency. 1 ≤ latency) }
 {
-    match word {
-        "cost" => Some(Mode::Cost),
-        "opt" => Some(Mode::Opt),
+    let [option, core] = options else {
+        return None;
+    };
+    if option.as_str() != "--core" {
+        return None;
+    }
+    latency_of(core.as_str())
+}
+
+// Do these spell a number: digits alone, and the first of several isn't 0?
+fn is_number(digits: &[u8]) -> bool
+    ensures { result ≡ is_number digits.now }
+{
+    match digits {
+        [] => false,
+        [digit] => digit.is_ascii_digit(),
+        _ => is_counting(digits),
+    }
+}
+
+// The number of turns, at most 10000000.
+#[tactic(auto, unfolding(crate::specs::Command::turns_of))]
+fn turns_of(word: &str) -> Option<u32>
+    ensures { result ≡ turns_of word.now }
+{
+    if !is_number(word.as_bytes()) {
+        return None;
+    }
+    let turns = word.parse::<u32>().ok()?;
+    if 10000000 < turns {
+        return None;
+    }
+    Some(turns)
+}
+
+// A run from the state of a file, with so many turns.
+fn emulation<'a>(state: &'a str, turns: u32) -> Option<Task<'a>>
+    ensures { option_map shown_task result ≡ emulation (state_of state.now) (Some turns) }
+{
+    if !is_name(state) {
+        return None;
+    }
+    Some(Task::Run { state, turns })
+}
+
+// The same with the number of turns as a word.
+fn counted_emulation<'a>(state: &'a str, turns: &str) -> Option<Task<'a>>
+    ensures { option_map shown_task result ≡ emulation (state_of state.now) (turns_of turns.now) }
+{
+    let turns = turns_of(turns);
+    if !is_name(state) {
+        return None;
+    }
+    let turns = turns?;
+    Some(Task::Run { state, turns })
+}
+
+// What `--state STATE` asks for, and `--turns N` beside it, in either order.
+fn run_of(options: &[String]) -> Option<Task<'_>>
+    ensures { option_map shown_task result ≡ run_of (map string_bytes options.now) }
+{
+    match options {
+        [option, state] => {
+            if option.as_str() != "--state" {
+                return None;
+            }
+            emulation(state.as_str(), 1000000)
+        }
+        [first, one, second, other] => {
+            if first.as_str() == "--state" && second.as_str() == "--turns" {
+                return counted_emulation(one.as_str(), other.as_str());
+            }
+            if first.as_str() == "--turns" && second.as_str() == "--state" {
+                return counted_emulation(other.as_str(), one.as_str());
+            }
+            None
+        }
+        _ => None,
+    }
+}
+
+// What a mode asks for with its options.
+fn task_of<'a>(mode: &str, options: &'a [String]) -> Option<Task<'a>>
+    ensures value { option_map shown_task result ≡ task_of mode.now (map string_bytes options.now) }
+    ensures range { IfSome result (λ task. HasLatency (shown_task task)) }
+{
+    match mode {
+        "cost" => {
+            let latency = core_of(options)?;
+            Some(Task::Cost { latency })
+        }
+        "opt" => {
+            let latency = core_of(options)?;
+            Some(Task::Opt { latency })
+        }
+        "run" => run_of(options),
         _ => None,
     }
 }
@@ -115,19 +205,17 @@ fn mode_of(word: &str) -> Option<Mode>
 #[tactic(auto, unfolding(crate::specs::Command::command_of))]
 pub fn command_of(words: &[String]) -> Option<Command<'_>>
     ensures value { option_map shown result ≡ command_of (map string_bytes words.now) }
-    ensures range { IfSome result (λ command. (1 ≤ command.latency) × (command.latency ≤ 255)) }
+    ensures range { IfSome result (λ command. HasLatency (shown_task command.task)) }
 {
-    let [_, mode, name, option, core] = words else {
+    let [_, mode, name, options @ ..] = words else {
         return None;
     };
-    if !is_name(name.as_str()) || option.as_str() != "--core" {
+    if !is_name(name.as_str()) {
         return None;
     }
-    let mode = mode_of(mode.as_str())?;
-    let latency = latency_of(core.as_str())?;
+    let task = task_of(mode.as_str(), options)?;
     Some(Command {
-        mode,
+        task,
         name: name.as_str(),
-        latency,
     })
 }

@@ -3,10 +3,12 @@
 
 mod command;
 mod cost;
+mod input;
 mod opt;
-mod print;
-mod region;
+mod problem;
 mod report;
+#[cfg(test)]
+mod run_tests;
 pub mod status;
 pub mod stop;
 #[cfg(test)]

@@ -1,65 +1,53 @@
 //! The text of `opt`: the written file of the best schedule of a region.
-ghost use Rattle.std.specs.Prelude.{◌≡◌, ℕ, ◌≤◌, true, List, length, map, nat_lt, string_bytes, IfOk, IsTrue};
+ghost use Rattle.std.specs.Prelude.{◌≡◌, ◌≤◌, List, length, nat_lt, Ok, IsTrue};
 ghost use Rattle.std.specs.List.{list_all};
-ghost use Rattle.sl_model.specs.declared.schedule.Choice.{Choice};
-ghost use Rattle.sl_model.specs.Legal.{IsFullLegal};
-ghost use Rattle.sl_model.specs.Space.{IsBest};
-ghost use Rattle.machine_sem.specs.FewForms.{few_isa};
-ghost use Rattle.legal_space.specs.Listing.{IsListable};
+ghost use Rattle.sl_model.specs.Body.{applied};
+ghost use Rattle.sl_model.specs.Legal.{IsFullLegal, body_of};
+ghost use Rattle.renamer.specs.Faithful.{IsSound};
 ghost use Rattle.legal_space.specs.Timed.{HasKnownSources};
 ghost use Rattle.sl_text.specs.Cut.{parts_of};
-ghost use Rattle.slothy_cli.specs.declared.command.Mode.TheVariants.{Opt};
-ghost use Rattle.slothy_cli.specs.Command.{wants_of};
-ghost use Rattle.slothy_cli.specs.Printed.{written_text};
-ghost use Rattle.slothy_cli.specs.Outcome.{opt_problem, OptAnswers};
+ghost use Rattle.asm_reader.specs.RegionViews.{region_of};
+ghost use Rattle.asm_printer.specs.Printed.{written_text};
+ghost use Rattle.asm_printer.specs.ReadBack.{IsPrintable};
+ghost use Rattle.slothy_cli.specs.Command.{opt, wants_of};
+ghost use Rattle.slothy_cli.specs.Outcome.{OptAnswers};
 ghost use Rattle.slothy_cli.specs.Fine.{AreFine};
-ghost use Rattle.slothy_cli.specs.Shown.{region_of, Settles};
+ghost use Rattle.slothy_cli.specs.Shown.{Settles};
 
-use crate::cost::plain_costs;
-use crate::print::written_text;
-use crate::region::Region;
+use crate::problem::region_problem;
 use crate::stop::{Failure, Stop};
-use issue_cost::NoMemory;
-use legal_space::{Choice, Problem, best_schedule, times_of, written};
-use machine_sem::few_forms::FewForms;
+use asm_printer::written_text;
+use asm_reader::Region;
+use legal_space::{Choice, Problem, best_schedule, times_of};
 use renamer::apply;
-use sl_model::instruction::Instr;
+use sl_isa::Arch;
 use sl_text::Cut;
-use std::alloc::{AllocError, Global};
+use std::alloc::Global;
 
 /// The most stalls that a schedule may have.
 const MOST_STALLS: u32 = 64;
 
-// The problem of items: all registers that they write are live-out, and none is free.
-fn opt_problem(alloc: Global, items: &[Instr], latency: u8) -> Result<Problem, NoMemory>
-    requires least { 1 ≤ latency }
-    requires few { length items.now ≤ 8 }
-    ensures problem { IfOk result (λ problem. problem ≡ opt_problem latency items.now) }
-    ensures sources { IfOk result (λ problem. HasKnownSources problem) }
-{
-    let live = written(alloc, items)?;
-    let costs = plain_costs(alloc, latency, items.len())?;
-    let items = Vec::from_slice(alloc, items).map_err(AllocError::from)?;
-    Problem::straight(alloc, items, &live, &[], costs)
-}
-
 // The written file of a full legal schedule of the items of a region.
-fn written_file(
+fn written_file<A: Arch>(
+    arch: &A,
     alloc: Global,
     problem: &Problem,
     cut: &Cut<'_>,
     schedule: &[Choice],
-) -> Result<String, Failure>
+) -> Result<Vec<u8>, Failure>
     requires few { length schedule.now ≤ 8 }
     requires rows { length problem.now.costs.rows ≡ length problem.now.items }
     requires sources { HasKnownSources problem.now }
     requires known { IsTrue (list_all (λ c. nat_lt c.item (length problem.now.items)) schedule.now) }
     requires units { IsTrue (list_all (λ c. nat_lt c.unit 16) schedule.now) }
-    ensures { Settles string_bytes result (λ answer. answer ≡ Ok (written_text (parts_of cut.now) problem.now schedule.now)) }
+    requires sound { IsSound A.isa (body_of problem.now) }
+    requires legal { IsFullLegal A.isa problem.now schedule.now }
+    ensures { Settles (λ text. text.items) result (λ answer. answer ≡ Ok (written_text A.printed (parts_of cut.now) problem.now schedule.now)) }
 {
     let items = apply(alloc, problem, problem.items(), schedule)?;
     let times = times_of(alloc, problem, schedule)?;
     let text = written_text(
+        arch,
         alloc,
         cut,
         &items,
@@ -73,15 +61,21 @@ fn written_file(
 
 /// The written file of the best schedule of a region of at most 8 items that write each register once, on the core
 /// `one:latency`; or that no schedule has few enough stalls.
-pub fn opt_text(alloc: Global, region: &Region<'_>, latency: u8) -> Result<String, Failure>
+pub fn opt_text<A: Arch>(
+    arch: &A,
+    alloc: Global,
+    region: &Region<'_>,
+    latency: u8,
+) -> Result<Vec<u8>, Failure>
     requires least { 1 ≤ latency }
-    requires few { length region.now.items.items ≤ 8 }
-    requires fine { AreFine (wants_of Opt) region.now.items.items }
-    ensures { Settles string_bytes result (OptAnswers latency (region_of region.now)) }
+    requires printable { IsPrintable A.reads A.printed }
+    requires fine { AreFine (record { isa = A.isa; reads = A.reads; printed = A.printed; step_of = A.step_of }) (wants_of (opt latency)) region.now.items.items }
+    ensures { Settles (λ text. text.items) result
+        (OptAnswers (record { isa = A.isa; reads = A.reads; printed = A.printed; step_of = A.step_of }) latency (region_of region.now)) }
 {
-    let problem = opt_problem(alloc, &region.items, latency)?;
-    let Some(schedule) = best_schedule(&FewForms, alloc, &problem, MOST_STALLS)? else {
+    let problem = region_problem(alloc, &region.items, latency)?;
+    let Some(schedule) = best_schedule(arch, alloc, &problem, MOST_STALLS)? else {
         return Err(Failure::Stopped(Stop::Infeasible { most: MOST_STALLS }));
     };
-    written_file(alloc, &problem, &region.cut, &schedule)
+    written_file(arch, alloc, &problem, &region.cut, &schedule)
 }

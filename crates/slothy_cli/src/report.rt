@@ -2,13 +2,32 @@
 ghost use Rattle.std.specs.Prelude.{◌≡◌, ◌≤◌, [], ◌∷◌, map, codes};
 ghost use Rattle.std.specs.Fmt.{decimal};
 ghost use Rattle.sl_model.specs.Text.{joined};
-ghost use Rattle.slothy_cli.specs.Messages.{reason_text, quantity_text, stop_message, message_of};
+ghost use Rattle.slothy_cli.specs.Messages.{form_text, reason_text, quantity_text, name_in, stop_message, message_of};
+ghost use Rattle.slothy_cli.specs.NamesShown.{names_of};
 ghost use Rattle.slothy_cli.specs.Ending.{TookFront};
 
 use crate::status::Ending;
-use crate::stop::{Quantity, Reason, Stop};
+use crate::stop::{File, Quantity, Reason, Stop};
 use itoa::Buffer;
 use sl_base::{Sink, write_all};
+use sl_isa::FormReason;
+
+/// The names of a command's files.
+#[derive(Clone, Copy, Debug)]
+pub struct Names<'a> {
+    pub input: &'a str,
+    pub state: &'a str,
+}
+
+// The name of a file.
+fn name_in<'a>(names: Names<'a>, file: File) -> &'a str
+    ensures { result.now ≡ name_in (names_of names.entry) file }
+{
+    match file {
+        File::Input => names.input,
+        File::State => names.state,
+    }
+}
 
 // Writes texts one behind the other, until the sink fails. It takes no memory.
 fn tell<S: Sink>(sink: &mut S, pieces: &[&str])
@@ -27,6 +46,19 @@ fn tell<S: Sink>(sink: &mut S, pieces: &[&str])
     }
 }
 
+// The name of a reason why words are no instruction.
+fn form_text(form: FormReason) -> &'static str
+    ensures { result.now ≡ form_text form }
+{
+    match form {
+        FormReason::UnknownMnemonic => "UnknownMnemonic",
+        FormReason::BadOperand => "BadOperand",
+        FormReason::ImmediateRange => "ImmediateRange",
+        FormReason::RegisterClass => "RegisterClass",
+        FormReason::SameRegister => "SameRegister",
+    }
+}
+
 // The name of a reason.
 fn reason_text(reason: Reason) -> &'static str
     ensures { result.now ≡ reason_text reason }
@@ -37,6 +69,8 @@ fn reason_text(reason: Reason) -> &'static str
         Reason::NoEnd => "NoEnd",
         Reason::Twice => "Twice",
         Reason::NotYet => "NotYet",
+        Reason::Form(form) => form_text(form),
+        Reason::StateBad => "StateBad",
     }
 }
 
@@ -112,26 +146,29 @@ fn report_infeasible<S: Sink>(sink: &mut S, most: &str)
 }
 
 // Says why a file has no text.
-fn report_stop<S: Sink>(sink: &mut S, name: &str, stop: Stop)
+fn report_stop<S: Sink>(sink: &mut S, names: Names<'_>, stop: Stop)
     ensures never_falls { S.faults sink.old ≤ S.faults sink.new }
     ensures took { TookFront (record {
       before = S.taken sink.old;
       after = S.taken sink.new;
       faults_before = S.faults sink.old;
       faults_after = S.faults sink.new;
-    }) (stop_message name.now stop) }
+    }) (stop_message (names_of names.entry) stop) }
 {
     let mut line_digits = Buffer::new();
     let mut limit_digits = Buffer::new();
     match stop {
-        Stop::Refused { line, reason } => {
+        Stop::Refused { file, line, reason } => {
+            let name = name_in(names, file);
             report_refusal(sink, name, line_digits.format(line), reason_text(reason));
         }
         Stop::TooLarge {
+            file,
             line,
             quantity,
             limit,
         } => {
+            let name = name_in(names, file);
             let line = line_digits.format(line);
             let limit = limit_digits.format(limit);
             report_limit(sink, name, line, quantity_text(quantity), limit);
@@ -180,22 +217,22 @@ fn report_write_fault<S: Sink>(sink: &mut S, sent: u64)
     report_sent(sink, digits.format(sent));
 }
 
-/// Writes the line of an ending, where the file has this name. It takes no memory, and goes as far as the sink takes it.
+/// Writes the line of an ending, where the files have these names. It takes no memory, and goes as far as the sink takes it.
 #[tactic(auto, unfolding(crate::specs::Messages::message_of))]
-pub fn report<S: Sink>(sink: &mut S, name: &str, ending: Ending)
+pub fn report<S: Sink>(sink: &mut S, names: Names<'_>, ending: Ending)
     ensures never_falls { S.faults sink.old ≤ S.faults sink.new }
     ensures took { TookFront (record {
       before = S.taken sink.old;
       after = S.taken sink.new;
       faults_before = S.faults sink.old;
       faults_after = S.faults sink.new;
-    }) (message_of name.now ending) }
+    }) (message_of (names_of names.entry) ending) }
 {
     match ending {
         Ending::Done => tell(sink, &[]),
         Ending::Usage => tell(sink, &["slothy: usage: slothy MODE [INPUT] [OPTIONS]\n"]),
-        Ending::Stopped(stop) => report_stop(sink, name, stop),
-        Ending::ReadFault => report_read_fault(sink, name),
+        Ending::Stopped(stop) => report_stop(sink, names, stop),
+        Ending::ReadFault(file) => report_read_fault(sink, name_in(names, file)),
         Ending::WriteFault { sent } => report_write_fault(sink, sent),
         Ending::NoMemory => tell(sink, &["slothy: no memory\n"]),
     }

@@ -3,7 +3,7 @@
 ghost use Rattle.std.specs.Prelude.{◌≡◌};
 ghost use Rattle.slothy_cli.specs.Messages.{code_of, status_of};
 
-use crate::stop::Stop;
+use crate::stop::{File, Stop};
 
 /// The status that the program ends with.
 #[derive(Clone, Copy, Debug, PartialEq, Eq)]
@@ -51,7 +51,7 @@ pub enum Ending {
     /// There is no text for this input.
     Stopped(Stop),
     /// The file couldn't be read.
-    ReadFault,
+    ReadFault(File),
     /// The output took `sent` bytes of the text and then failed.
     WriteFault { sent: u64 },
     /// Memory ran out.
@@ -69,7 +69,7 @@ impl Ending {
             Ending::Stopped(Stop::Refused { .. }) => Status::Refused,
             Ending::Stopped(Stop::TooLarge { .. }) => Status::TooLarge,
             Ending::Stopped(Stop::Infeasible { .. }) => Status::Infeasible,
-            Ending::ReadFault => Status::ReadFault,
+            Ending::ReadFault(_) => Status::ReadFault,
             Ending::WriteFault { .. } => Status::WriteFault,
             Ending::NoMemory => Status::NoMemory,
         }

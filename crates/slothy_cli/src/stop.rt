@@ -3,6 +3,7 @@ ghost use Rattle.std.specs.Prelude.{◌≡◌};
 ghost use Rattle.slothy_cli.specs.declared.stop.Failure.TheVariants.{Stopped, NoMemory};
 
 use sl_base::NoMemory as OutOfMemory;
+use sl_isa::FormReason;
 use std::alloc::{AllocError, AllocFailed};
 
 /// Why an input is refused.
@@ -18,6 +19,19 @@ pub enum Reason {
     Twice,
     /// The line has something that isn't built yet.
     NotYet,
+    /// A statement is no instruction.
+    Form(FormReason),
+    /// The line is no line of a state file.
+    StateBad,
+}
+
+/// A file of the command.
+#[derive(Clone, Copy, Debug, PartialEq, Eq)]
+pub enum File {
+    /// The one with the region.
+    Input,
+    /// The one with the state.
+    State,
 }
 
 /// What passes a limit.
@@ -32,8 +46,9 @@ pub enum Quantity {
 /// Why an input has no answer. Lines are counted from 1, and 0 stands for the whole file.
 #[derive(Clone, Copy, Debug, PartialEq, Eq)]
 pub enum Stop {
-    /// The input is refused at this line, for this reason.
+    /// The file is refused at this line, for this reason.
     Refused {
+        file: File,
         line: u32,
         reason: Reason,
     },
@@ -41,11 +56,12 @@ pub enum Stop {
     Infeasible {
         most: u32,
     },
-    /// The quantity passes its limit at this line.
+    /// The quantity passes its limit at this line of the file.
     TooLarge {
+        file: File,
         line: u32,
         quantity: Quantity,
-        limit: u32,
+        limit: u64,
     },
 }
 

@@ -174,6 +174,27 @@ fn opt_writes_the_best_schedule(rt: HostRuntime) -> Result<(), Fail> {
             "",
         ),
         (
+            "opt k.s --core one:3",
+            "slothy_start:\n\tadds x1, x2, x3\n\tcsel x4, x1, x2, ne // reads the flags\n\tADD V0.4S,V1.4S,V2.4S\n\teor v3.16b, v1.16b, v2.16b\nslothy_end:\n",
+            Status::Done,
+            "\
+            slothy_start:\n\
+            \x20       // @slothy:region v=1 kind=straight n=4 cycles=4 stalls=0\n\
+            \x20       adds x1, x2, x3 // @slothy:i=0 u=u c=0 line=2\n\
+            \x20       add v0.4s, v1.4s, v2.4s // @slothy:i=2 u=u c=1 line=4\n\
+            \x20       eor v3.16b, v1.16b, v2.16b // @slothy:i=3 u=u c=2 line=5\n\
+            \x20       csel x4, x1, x2, ne // @slothy:i=1 u=u c=3 line=3\n\
+            slothy_end:\n",
+            "",
+        ),
+        (
+            "opt k.s --core one:2",
+            "slothy_start:\n        adds x1, x2, x3\n        subs x4, x5, x6\nslothy_end:\n",
+            Status::Refused,
+            "",
+            "slothy: k.s:3: refused: NotYet\n",
+        ),
+        (
             "opt k.s --core one:2",
             "slothy_start:\nslothy_end:\n",
             Status::Done,
@@ -213,7 +234,7 @@ fn eight_items_are_the_limit_of_opt(rt: HostRuntime) -> Result<(), Fail> {
         (
             "        nop\nslothy_end:\n",
             Status::Refused,
-            "slothy: k.s:10: refused: NotYet\n",
+            "slothy: k.s:10: refused: UnknownMnemonic\n",
         ),
     ];
     for (end, status, err) in ends {
@@ -472,9 +493,9 @@ fn each_input_has_its_answer(rt: HostRuntime) -> Result<(), Fail> {
         ),
         (
             "/*\nslothy_start:\n*/\nslothy_end:\n",
-            Status::Refused,
+            Status::Done,
+            EMPTY_TEXT,
             "",
-            "slothy: k.s:1: refused: NotYet\n",
         ),
         (
             "f:\n.macro m\n.endm\nslothy_start:\nslothy_end:\n",
@@ -502,9 +523,9 @@ fn each_input_has_its_answer(rt: HostRuntime) -> Result<(), Fail> {
         ),
         (
             "slothy_start:\r\n        add x1, x2, x3\r\nslothy_end:\r\n",
-            Status::Refused,
+            Status::Done,
+            "kind=straight n=1 cycles=1 stalls=0\nc=0 u=u i=0 line=2 add x1, x2, x3\n",
             "",
-            "slothy: k.s:2: refused: NotYet\n",
         ),
         (
             "slothy_start:\r\nslothy_end:\r\n",
@@ -526,16 +547,40 @@ fn each_input_has_its_answer(rt: HostRuntime) -> Result<(), Fail> {
             "slothy: k.s:2: refused: NotYet\n",
         ),
         (
-            "slothy_start:\n        add x1, x2, x3\n\nslothy_end:\n",
+            "slothy_start:\n        add x1, x2, x3\n\n\tADD\tX4,X1,X2 // twice\n/* none */ EOR x5 , x4 , x4; sub x6, x5, #1\nslothy_end:\n",
+            Status::Done,
+            "kind=straight n=4 cycles=7 stalls=3\nc=0 u=u i=0 line=2 add x1, x2, x3\nc=2 u=u i=1 line=4 add x4, x1, x2\nc=4 u=u i=2 line=5 eor x5, x4, x4\nc=6 u=u i=3 line=5 sub x6, x5, #1\n",
+            "",
+        ),
+        (
+            "slothy_start:\n        add x1, x2, x3 // @slothy:tag=t\nslothy_end:\n",
             Status::Refused,
             "",
-            "slothy: k.s:3: refused: NotYet\n",
+            "slothy: k.s:2: refused: NotYet\n",
+        ),
+        (
+            "slothy_start:\n        madden x1, x2\nslothy_end:\n",
+            Status::Refused,
+            "",
+            "slothy: k.s:2: refused: UnknownMnemonic\n",
+        ),
+        (
+            "slothy_start:\n        add x1, x2, #4096\nslothy_end:\n",
+            Status::Refused,
+            "",
+            "slothy: k.s:2: refused: ImmediateRange\n",
         ),
         (
             "slothy_start:\n        add x1, x2, x31\nslothy_end:\n",
             Status::Refused,
             "",
-            "slothy: k.s:2: refused: NotYet\n",
+            "slothy: k.s:2: refused: BadOperand\n",
+        ),
+        (
+            "slothy_start:\n        add x1, x2, sp\nslothy_end:\n",
+            Status::Refused,
+            "",
+            "slothy: k.s:2: refused: RegisterClass\n",
         ),
     ];
     for (text, status, out, err) in cases {
@@ -594,7 +639,13 @@ fn sixty_four_items_and_a_mebibyte_are_the_limits(rt: HostRuntime) -> Result<(),
     );
     let faulty = repeated(alloc, start, item, 64, "        nop\nslothy_end:\n")?;
     let answer = run_on(&rt, alloc, "cost k.s --core one:1", &faulty, NONE)?;
-    assert!(rt; answer.is(Status::Refused, "", "slothy: k.s:66: refused: NotYet\n"));
+    assert!(rt;
+        answer.is(
+            Status::Refused,
+            "",
+            "slothy: k.s:66: refused: UnknownMnemonic\n"
+        )
+    );
     let whole = repeated(alloc, "slothy_start:\nslothy_end:\n", "x", 1048576 - 26, "")?;
     let answer = run_on(&rt, alloc, "cost k.s --core one:1", &whole, NONE)?;
     assert!(rt; answer.is(Status::Done, EMPTY_TEXT, ""));
@@ -609,7 +660,13 @@ fn sixty_four_items_and_a_mebibyte_are_the_limits(rt: HostRuntime) -> Result<(),
     );
     let wide = repeated(alloc, start, "a", 100000, "\nslothy_end:\n")?;
     let answer = run_on(&rt, alloc, "cost k.s --core one:1", &wide, NONE)?;
-    assert!(rt; answer.is(Status::Refused, "", "slothy: k.s:2: refused: NotYet\n"));
+    assert!(rt;
+        answer.is(
+            Status::Refused,
+            "",
+            "slothy: k.s:2: refused: UnknownMnemonic\n"
+        )
+    );
     Ok(())
 }
 

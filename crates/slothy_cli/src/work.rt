@@ -1,69 +1,48 @@
 //! From a command and its file to the text.
-ghost use Rattle.std.specs.Prelude.{◌≡◌, ◌≤◌, ◌<◌, ℕ, List, length, Some, Ok, Err, IfOk, IfErr, string_bytes};
-ghost use Rattle.slothy_cli.specs.Shown.{shown, region_of, Settles, unread_ending, failed_ending};
-ghost use Rattle.slothy_cli.specs.Command.{wants_of};
-ghost use Rattle.slothy_cli.specs.Outcome.{ModeAnswers, CommandAnswers};
+ghost use Rattle.std.specs.Prelude.{◌≡◌, ◌≤◌, length, IfOk, IfErr};
+ghost use Rattle.asm_reader.specs.RegionViews.{region_of};
+ghost use Rattle.asm_printer.specs.ReadBack.{IsPrintable};
+ghost use Rattle.std.specs.List.{AllByRecursion};
+ghost use Rattle.sl_model.specs.Lawful.{IsValid};
+ghost use Rattle.slothy_cli.specs.Shown.{shown, shown_task, Gives, unread_ending, failed_ending};
+ghost use Rattle.slothy_cli.specs.Command.{HasLatency, wants_of};
+ghost use Rattle.slothy_cli.specs.Outcome.{run_answer};
 ghost use Rattle.slothy_cli.specs.Fine.{AreFine};
-ghost use Rattle.slothy_cli.specs.Ending.{HasText, HasCause};
+ghost use Rattle.slothy_cli.specs.Ending.{AreOf, known_of, state_known, HasText, HasCause};
+ghost use Rattle.slothy_cli.specs.Parts.{RunText, RunCause, RegionText, RegionCause};
 
-use crate::command::{Command, Mode};
+use crate::command::{Command, Task};
 use crate::cost::cost_text;
+use crate::input::{file_region, text_from};
 use crate::opt::opt_text;
-use crate::region::{Region, file_region};
 use crate::status::Ending;
-use crate::stop::{Failure, Quantity, Stop};
+use crate::stop::{Failure, File, Quantity, Reason, Stop};
+use asm_reader::Region;
 use sl_base::{Files, ReadErr, read_all};
+use sl_isa::{Arch, Instr};
+use state_text::{StateErr, run_on_state};
 use std::alloc::Global;
 
 /// The most bytes that a file may have.
 const FILE_BYTES: u64 = 1048576;
 
-// The text of a command, from its region.
-fn text_of_region(
-    alloc: Global,
-    command: &Command<'_>,
-    region: &Region<'_>,
-) -> Result<String, Failure>
-    requires least { 1 ≤ command.now.latency }
-    requires few { length region.now.items.items ≤ (wants_of command.now.mode).limit }
-    requires fine { AreFine (wants_of command.now.mode) region.now.items.items }
-    ensures { Settles string_bytes result (ModeAnswers command.now.mode command.now.latency (region_of region.now)) }
-{
-    match command.mode {
-        Mode::Cost => {
-            let text = cost_text(alloc, &region.items, command.latency)?;
-            Ok(text)
-        }
-        Mode::Opt => opt_text(alloc, region, command.latency),
-    }
-}
-
-// What a command answers to the bytes of its file, of which there are at most 1048576.
-fn answer(alloc: Global, command: &Command<'_>, bytes: &[u8]) -> Result<String, Failure>
-    requires least { 1 ≤ command.now.latency }
-    requires short { length bytes.now ≤ 1048576 }
-    ensures { Settles string_bytes result (CommandAnswers (shown command.now) bytes.now) }
-{
-    let region = file_region(alloc, command.mode.wants(), bytes)?;
-    text_of_region(alloc, command, &region)
-}
-
 // How a file that couldn't be read ends the call.
-fn unread(error: ReadErr) -> Ending
-    ensures { result ≡ unread_ending error }
+fn unread(file: File, error: ReadErr) -> Ending
+    ensures { result ≡ unread_ending file error }
 {
     match error {
-        ReadErr::ReadFault => Ending::ReadFault,
+        ReadErr::ReadFault => Ending::ReadFault(file),
         ReadErr::TooLong { .. } => Ending::Stopped(Stop::TooLarge {
+            file,
             line: 0,
             quantity: Quantity::File,
-            limit: FILE_BYTES as u32,
+            limit: FILE_BYTES,
         }),
         ReadErr::NoMemory => Ending::NoMemory,
     }
 }
 
-// How a file without a text ends the call.
+// How files without a text end the call.
 fn unanswered(failure: Failure) -> Ending
     ensures { result ≡ failed_ending failure }
 {
@@ -73,17 +52,136 @@ fn unanswered(failure: Failure) -> Ending
     }
 }
 
-/// The text of a command, from its file.
-pub fn text_of_file<F: Files>(
+// What a run answers to the items of a region and the bytes of the state file, of which there are at most 1048576.
+#[tactic(auto, unfolding(crate::specs::Outcome::run_answer))]
+fn run_answer<A: Arch>(
+    arch: &A,
+    alloc: Global,
+    items: &[Instr],
+    bytes: &[u8],
+) -> Result<Vec<u8>, Failure>
+    requires valid { AllByRecursion (IsValid A.isa) items.now }
+    requires short { length bytes.now ≤ 1048576 }
+    ensures { Gives (λ text. text.items) result (run_answer (record { isa = A.isa; reads = A.reads; printed = A.printed; step_of = A.step_of }) items.now bytes.now) }
+{
+    let text = text_from(File::State, bytes)?;
+    match run_on_state(arch, alloc, items, text) {
+        Ok(text) => Ok(text),
+        Err(StateErr::StateBad { line }) => Err(Failure::Stopped(Stop::Refused {
+            file: File::State,
+            line,
+            reason: Reason::StateBad,
+        })),
+        Err(StateErr::NoMemory) => Err(Failure::NoMemory),
+    }
+}
+
+// The text of a run of the items of a region on the state of a file.
+fn text_of_state<A: Arch, F: Files>(
+    arch: &A,
+    alloc: Global,
+    items: &[Instr],
+    name: &str,
+    files: &mut F,
+) -> Result<Vec<u8>, Ending>
+    requires valid { AllByRecursion (IsValid A.isa) items.now }
+    ensures same_files { F.holds files.new ≡ F.holds files.old }
+    ensures never_falls { F.faults files.old ≤ F.faults files.new }
+    ensures text { IfOk result (λ text. RunText (record { isa = A.isa; reads = A.reads; printed = A.printed; step_of = A.step_of }) items.now (F.holds files.old name.now) text.items) }
+    ensures cause { IfErr result (λ ending. RunCause (record { isa = A.isa; reads = A.reads; printed = A.printed; step_of = A.step_of }) items.now (F.holds files.old name.now) name.now (record {
+      faults_before = F.faults files.old;
+      faults_after = F.faults files.new;
+      given = F.given files.new;
+      chosen = F.chosen files.new;
+      broken = F.broken files.new;
+    }) ending) }
+{
+    match read_all(alloc, files, name, FILE_BYTES) {
+        Ok(bytes) => match run_answer(arch, alloc, items, &bytes) {
+            Ok(text) => Ok(text),
+            Err(failure) => Err(unanswered(failure)),
+        },
+        Err(error) => Err(unread(File::State, error)),
+    }
+}
+
+// The text of a command, from its region.
+fn text_of_region<A: Arch, F: Files>(
+    arch: &A,
+    alloc: Global,
+    task: Task<'_>,
+    region: &Region<'_>,
+    files: &mut F,
+) -> Result<Vec<u8>, Ending>
+    requires least { HasLatency (shown_task task) }
+    requires printable { IsPrintable A.reads A.printed }
+    requires fine { AreFine (record { isa = A.isa; reads = A.reads; printed = A.printed; step_of = A.step_of }) (wants_of (shown_task task)) region.now.items.items }
+    ensures same_files { F.holds files.new ≡ F.holds files.old }
+    ensures never_falls { F.faults files.old ≤ F.faults files.new }
+    ensures text { IfOk result (λ text. RegionText (record { isa = A.isa; reads = A.reads; printed = A.printed; step_of = A.step_of }) (shown_task task.entry) (region_of region.now) (state_known (shown_task task.entry) (F.holds files.old)) text.items) }
+    ensures cause { IfErr result (λ ending. RegionCause (record { isa = A.isa; reads = A.reads; printed = A.printed; step_of = A.step_of }) (shown_task task.entry) (region_of region.now) (state_known (shown_task task.entry) (F.holds files.old)) (record {
+      faults_before = F.faults files.old;
+      faults_after = F.faults files.new;
+      given = F.given files.new;
+      chosen = F.chosen files.new;
+      broken = F.broken files.new;
+    }) ending) }
+{
+    match task {
+        Task::Cost { latency } => match cost_text(arch, alloc, &region.items, latency) {
+            Ok(text) => Ok(text),
+            Err(_) => Err(Ending::NoMemory),
+        },
+        Task::Opt { latency } => match opt_text(arch, alloc, region, latency) {
+            Ok(text) => Ok(text),
+            Err(failure) => Err(unanswered(failure)),
+        },
+        Task::Run { state, .. } => text_of_state(arch, alloc, &region.items, state, files),
+    }
+}
+
+// The text of a command, from the bytes of its file, of which there are at most 1048576.
+fn text_of_bytes<A: Arch, F: Files>(
+    arch: &A,
+    alloc: Global,
+    command: &Command<'_>,
+    bytes: &[u8],
+    files: &mut F,
+) -> Result<Vec<u8>, Ending>
+    requires least { HasLatency (shown_task command.now.task) }
+    requires printable { IsPrintable A.reads A.printed }
+    requires short { length bytes.now ≤ 1048576 }
+    requires told { AreOf (F.holds files.old command.now.name.now) bytes.now }
+    ensures same_files { F.holds files.new ≡ F.holds files.old }
+    ensures never_falls { F.faults files.old ≤ F.faults files.new }
+    ensures text { IfOk result (λ text. HasText (record { isa = A.isa; reads = A.reads; printed = A.printed; step_of = A.step_of }) (shown command.now) (known_of (shown command.now) (F.holds files.old)) text.items) }
+    ensures cause { IfErr result (λ ending. HasCause (record { isa = A.isa; reads = A.reads; printed = A.printed; step_of = A.step_of }) (shown command.now) (known_of (shown command.now) (F.holds files.old)) (record {
+      faults_before = F.faults files.old;
+      faults_after = F.faults files.new;
+      given = F.given files.new;
+      chosen = F.chosen files.new;
+      broken = F.broken files.new;
+    }) ending) }
+{
+    match file_region(arch, alloc, command.task.wants(), bytes) {
+        Ok(region) => text_of_region(arch, alloc, command.task, &region, files),
+        Err(failure) => Err(unanswered(failure)),
+    }
+}
+
+/// The text of a command, from its files.
+pub fn text_of_file<A: Arch, F: Files>(
+    arch: &A,
     alloc: Global,
     command: &Command<'_>,
     files: &mut F,
-) -> Result<String, Ending>
-    requires { 1 ≤ command.now.latency }
+) -> Result<Vec<u8>, Ending>
+    requires least { HasLatency (shown_task command.now.task) }
+    requires printable { IsPrintable A.reads A.printed }
     ensures same_files { F.holds files.new ≡ F.holds files.old }
     ensures never_falls { F.faults files.old ≤ F.faults files.new }
-    ensures text { IfOk result (λ text. HasText (shown command.now) (F.holds files.old command.now.name.now) (string_bytes text)) }
-    ensures cause { IfErr result (λ ending. HasCause (shown command.now) (F.holds files.old command.now.name.now) (record {
+    ensures text { IfOk result (λ text. HasText (record { isa = A.isa; reads = A.reads; printed = A.printed; step_of = A.step_of }) (shown command.now) (known_of (shown command.now) (F.holds files.old)) text.items) }
+    ensures cause { IfErr result (λ ending. HasCause (record { isa = A.isa; reads = A.reads; printed = A.printed; step_of = A.step_of }) (shown command.now) (known_of (shown command.now) (F.holds files.old)) (record {
       faults_before = F.faults files.old;
       faults_after = F.faults files.new;
       given = F.given files.new;
@@ -92,10 +190,7 @@ pub fn text_of_file<F: Files>(
     }) ending) }
 {
     match read_all(alloc, files, command.name, FILE_BYTES) {
-        Ok(bytes) => match answer(alloc, command, &bytes) {
-            Ok(text) => Ok(text),
-            Err(failure) => Err(unanswered(failure)),
-        },
-        Err(error) => Err(unread(error)),
+        Ok(bytes) => text_of_bytes(arch, alloc, command, &bytes, files),
+        Err(error) => Err(unread(File::Input, error)),
     }
 }

@@ -1,0 +1,456 @@
+-- The forms of AArch64 that are read, family by family: their spellings, the numbers and registers that they take, their
+-- cost classes and their meanings. Source: DDI 0487, A64 base and Advanced SIMD instructions; which forms, ranges and places
+-- of the zero register are taken is a profile.
+use Rattle.std.specs.Prelude.{ℕ, pos, ◌+◌, ◌-◌, ◌*◌, ◌^◌, Bool, true, false, List, [], ◌∷◌, ◌++◌, codes, slice_index_or}
+use Rattle.sl_model.specs.declared.register.RegSet.{RegSet}
+use Rattle.sl_isa.specs.Arch.{padded_values}
+use Rattle.sl_isa.specs.declared.meaning.Size.{Size}
+use Rattle.sl_isa.specs.declared.meaning.Size.TheVariants.{Bits32, Bits64}
+use Rattle.sl_isa.specs.declared.meaning.Shift.{Shift}
+use Rattle.sl_isa.specs.declared.meaning.Shift.TheVariants as shift
+use Rattle.sl_isa.specs.declared.meaning.Second.{Second}
+use Rattle.sl_isa.specs.declared.meaning.Second.TheVariants as second
+use Rattle.sl_isa.specs.declared.meaning.Logic.{Logic}
+use Rattle.sl_isa.specs.declared.meaning.Logic.TheVariants as logic
+use Rattle.sl_isa.specs.declared.meaning.Product.{Product}
+use Rattle.sl_isa.specs.declared.meaning.Product.TheVariants as product
+use Rattle.sl_isa.specs.declared.meaning.Scalar.{Scalar}
+use Rattle.sl_isa.specs.declared.meaning.Scalar.TheVariants as scalar
+use Rattle.sl_isa.specs.declared.meaning.Arrangement.{Arrangement}
+use Rattle.sl_isa.specs.declared.meaning.Arrangement.TheVariants.{Bytes8, Bytes16, Halves4, Halves8, Words2, Words4, Doubles2}
+use Rattle.sl_isa.specs.declared.meaning.Lane.{Lane}
+use Rattle.sl_isa.specs.declared.meaning.Lane.TheVariants.{Byte, Half, Word, Double}
+use Rattle.sl_isa.specs.declared.meaning.LaneOp.{LaneOp}
+use Rattle.sl_isa.specs.declared.meaning.LaneOp.TheVariants as op
+use Rattle.sl_isa.specs.declared.meaning.LaneShift.{LaneShift}
+use Rattle.sl_isa.specs.declared.meaning.LaneShift.TheVariants as lane_shift
+use Rattle.sl_isa.specs.declared.meaning.Permutation.{Permutation}
+use Rattle.sl_isa.specs.declared.meaning.Permutation.TheVariants as permutation
+use Rattle.sl_isa.specs.declared.meaning.Vector.{Vector}
+use Rattle.sl_isa.specs.declared.meaning.Vector.TheVariants as vector
+use Rattle.sl_isa.specs.declared.meaning.Meaning.{Meaning}
+use Rattle.sl_isa.specs.declared.meaning.Meaning.TheVariants as meaning
+use Rattle.form_table.specs.declared.rows.Letter.{Letter}
+use Rattle.form_table.specs.declared.rows.Letter.TheVariants as letter
+use Rattle.form_table.specs.declared.rows.Name.{Name}
+use Rattle.form_table.specs.declared.rows.Name.TheVariants as name
+use Rattle.form_table.specs.declared.rows.Shape.{Shape}
+use Rattle.form_table.specs.declared.rows.Shape.TheVariants as shape
+use Rattle.form_table.specs.declared.rows.Role.{Role}
+use Rattle.form_table.specs.declared.rows.Role.TheVariants.{In, Out, Tied}
+use Rattle.form_table.specs.declared.rows.Range.{Range}
+use Rattle.form_table.specs.declared.rows.Operand.{Operand}
+use Rattle.form_table.specs.declared.rows.Sum.TheVariants as total
+use Rattle.form_table.specs.declared.rows.Alias.TheVariants as alias
+use Rattle.form_table.specs.declared.rows.Row.{Row}
+
+-- no register; x0 to x30; these and the zero register; v0 to v31; v0 to v15
+abbrev pub no_register : RegSet
+no_register = record { bits = 0 }
+
+abbrev pub general : RegSet
+general = record { bits = 2 ^ 31 - 1 }
+
+abbrev pub general_or_zero : RegSet
+general_or_zero = record { bits = 2 ^ 32 - 1 }
+
+abbrev pub vectors : RegSet
+vectors = record { bits = (2 ^ 32 - 1) * 2 ^ 32 }
+
+abbrev pub low_vectors : RegSet
+low_vectors = record { bits = (2 ^ 16 - 1) * 2 ^ 32 }
+
+-- the numbers from one to another, by a step
+abbrev pub range : ℕ → ℕ → ℕ → Range
+range least most step = record { least = pos least; most = pos most; step = step }
+
+-- operands: none, one with a register, one with a number, one with both
+abbrev pub none : Operand
+none = record { shape = shape.Nothing; role = In; class = no_register; range = range 0 0 1 }
+
+abbrev pub register : Shape → Role → RegSet → Operand
+register shape role class = record { shape = shape; role = role; class = class; range = range 0 0 1 }
+
+abbrev pub numeral : Shape → Range → Operand
+numeral shape range = record { shape = shape; role = In; class = no_register; range = range }
+
+abbrev pub lane_of : Name → Role → RegSet → ℕ → Operand
+lane_of name role class most = record { shape = shape.Lane name; role = role; class = class; range = range 0 most 1 }
+
+-- a row: its mnemonic, its operands, whether it reads and sets the flags, its class and its meaning
+abbrev pub at : List Operand → ℕ → Operand
+at operands k = slice_index_or operands k none
+
+abbrev pub row : List ℕ → List Operand → Bool → Bool → ℕ → Meaning → Row
+row mnemonic operands reads sets class meaning = record {
+  mnemonic = padded_values 8 mnemonic;
+  first = at operands 0;
+  second = at operands 1;
+  third = at operands 2;
+  fourth = at operands 3;
+  fifth = at operands 4;
+  reads_flags = reads;
+  sets_flags = sets;
+  sum = total.Free;
+  class = class;
+  meaning = meaning;
+  alias = alias.Own;
+}
+
+-- the same that is kept as another form: with the same operands, or without the number at a place where it is 0
+abbrev pub kept_as : Row → ℕ → Row
+kept_as r form = record r { alias = alias.As form }
+
+abbrev pub without_zero : Row → ℕ → ℕ → Row
+without_zero r form place = record r { alias = alias.ZeroAs form place }
+
+-- the classes: alu, alus, mul, valu, vshift, vmul, vperm, vxfer
+abbrev pub alu : ℕ
+alu = 0
+
+abbrev pub alus : ℕ
+alus = 1
+
+abbrev pub mul : ℕ
+mul = 2
+
+abbrev pub valu : ℕ
+valu = 5
+
+abbrev pub vshift : ℕ
+vshift = 6
+
+abbrev pub vmul : ℕ
+vmul = 7
+
+abbrev pub vperm : ℕ
+vperm = 8
+
+abbrev pub vxfer : ℕ
+vxfer = 9
+
+-- Scalar operands: R is X or W. The zero register is no output, and an input only where `any` stands.
+abbrev pub letter_of : Size → Letter
+letter_of Bits64 = letter.X
+letter_of Bits32 = letter.W
+
+abbrev pub last_bit : Size → ℕ
+last_bit Bits64 = 63
+last_bit Bits32 = 31
+
+abbrev pub to : Size → Operand
+to size = register (shape.Register (letter_of size)) Out general
+
+abbrev pub tied : Size → Operand
+tied size = register (shape.Register (letter_of size)) Tied general
+
+abbrev pub from : Size → Operand
+from size = register (shape.Register (letter_of size)) In general
+
+abbrev pub any : Size → Operand
+any size = register (shape.Register (letter_of size)) In general_or_zero
+
+abbrev pub number : Range → Operand
+number range = numeral shape.Number range
+
+abbrev pub shifted : Name → Range → Operand
+shifted name range = numeral (shape.Shift name) range
+
+-- a shift amount of so many bits: from 0
+abbrev pub amount : Size → Range
+amount size = range 0 (last_bit size) 1
+
+abbrev pub both : (Size → List Row) → List Row
+both rows = rows Bits64 ++ rows Bits32
+
+abbrev pub scalar_row : List ℕ → List Operand → Bool → Bool → ℕ → Scalar → Size → Row
+scalar_row mnemonic operands reads sets class op size = row mnemonic operands reads sets class (meaning.Scalar op size)
+
+-- a scalar row that has nothing to do with the flags
+abbrev pub plain : List ℕ → List Operand → ℕ → Scalar → Size → Row
+plain mnemonic operands class op size = scalar_row mnemonic operands false false class op size
+
+-- add, sub, adds, subs Rd, Rn, Rm {, lsl/lsr/asr #k}, the first of these with a number
+abbrev pub sum_row : List ℕ → List Operand → Bool → Bool → ℕ → Second → Size → Row
+sum_row mnemonic operands minus flags class second size = scalar_row mnemonic operands false flags class (scalar.Sum minus second false flags) size
+
+abbrev pub shifted_sum : List ℕ → Bool → Bool → Name → Shift → Size → Row
+shifted_sum mnemonic minus flags name by size = sum_row mnemonic (to size ∷ any size ∷ any size ∷ shifted name (amount size) ∷ []) minus flags alus (second.Shifted by) size
+
+abbrev pub sums_of : List ℕ → Bool → Bool → ℕ → Size → List Row
+sums_of mnemonic minus flags form size =
+    sum_row mnemonic (to size ∷ any size ∷ any size ∷ []) minus flags alu second.Register size
+    ∷ without_zero (shifted_sum mnemonic minus flags name.Lsl shift.Lsl size) form 3
+    ∷ shifted_sum mnemonic minus flags name.Lsr shift.Lsr size
+    ∷ shifted_sum mnemonic minus flags name.Asr shift.Asr size
+    ∷ []
+
+abbrev pub sums : List ℕ → Bool → Bool → ℕ → List Row
+sums mnemonic minus flags form = sums_of mnemonic minus flags form Bits64 ++ sums_of mnemonic minus flags (form + 4) Bits32
+
+-- add, sub, adds, subs Rd, Rn, #i {, lsl #12}
+abbrev pub number_sums : List ℕ → Bool → Bool → List Row
+number_sums mnemonic minus flags = both (λ size.
+    sum_row mnemonic (to size ∷ from size ∷ number (range 0 4095 1) ∷ []) minus flags alu second.Number size
+    ∷ sum_row mnemonic (to size ∷ from size ∷ number (range 0 4095 1) ∷ shifted name.Lsl (range 12 12 1) ∷ []) minus flags alu second.Number size
+    ∷ [])
+
+-- adc, sbc, adcs, sbcs Rd, Rn, Rm
+abbrev pub carried : List ℕ → Bool → Bool → List Row
+carried mnemonic minus flags = both (λ size.
+    scalar_row mnemonic (to size ∷ any size ∷ any size ∷ []) true flags alu (scalar.Sum minus second.Register true flags) size ∷ [])
+
+-- and, orr, eor, bic Rd, Rn, Rm {, lsl/lsr/asr/ror #k}
+abbrev pub shifted_logic : List ℕ → Logic → Name → Shift → Size → Row
+shifted_logic mnemonic op name by size = plain mnemonic (to size ∷ any size ∷ any size ∷ shifted name (amount size) ∷ []) alus (scalar.Logic op (second.Shifted by)) size
+
+abbrev pub logic_of : List ℕ → Logic → ℕ → Size → List Row
+logic_of mnemonic op form size =
+    plain mnemonic (to size ∷ any size ∷ any size ∷ []) alu (scalar.Logic op second.Register) size
+    ∷ without_zero (shifted_logic mnemonic op name.Lsl shift.Lsl size) form 3
+    ∷ shifted_logic mnemonic op name.Lsr shift.Lsr size
+    ∷ shifted_logic mnemonic op name.Asr shift.Asr size
+    ∷ shifted_logic mnemonic op name.Ror shift.Ror size
+    ∷ []
+
+abbrev pub logics : List ℕ → Logic → ℕ → List Row
+logics mnemonic op form = logic_of mnemonic op form Bits64 ++ logic_of mnemonic op (form + 5) Bits32
+
+-- movz, movk Rd, #i {, lsl #s}: s is a multiple of 16
+abbrev pub wide_shift : Size → Operand
+wide_shift size = shifted name.Lsl (range 0 (last_bit size - 15) 16)
+
+abbrev pub wide : List ℕ → (Size → Operand) → Scalar → ℕ → Size → List Row
+wide mnemonic target op form size =
+    plain mnemonic (target size ∷ number (range 0 65535 1) ∷ []) alu op size
+    ∷ without_zero (plain mnemonic (target size ∷ number (range 0 65535 1) ∷ wide_shift size ∷ []) alu op size) form 2
+    ∷ []
+
+-- mov Rd, #i is kept as movz
+abbrev pub moved_number : ℕ → Size → Row
+moved_number form size = kept_as (plain (codes "mov") (to size ∷ number (range 0 65535 1) ∷ []) alu scalar.Wide size) form
+
+-- mul, madd, msub, and those of twice as many bits
+abbrev pub products : List ℕ → Product → List Operand → Size → Row
+products mnemonic product more size = plain mnemonic (to size ∷ any size ∷ any size ∷ more) mul (scalar.Multiply product) size
+
+abbrev pub high_product : List ℕ → Bool → Row
+high_product mnemonic signed = plain mnemonic (to Bits64 ∷ any Bits64 ∷ any Bits64 ∷ []) mul (scalar.MultiplyHigh signed) Bits64
+
+abbrev pub long_product : List ℕ → Bool → Row
+long_product mnemonic signed = plain mnemonic (to Bits64 ∷ any Bits32 ∷ any Bits32 ∷ []) mul (scalar.MultiplyLong signed) Bits64
+
+-- lsl, lsr, asr, ror Rd, Rn, #k
+abbrev pub shifts : List ℕ → Shift → List Row
+shifts mnemonic by = both (λ size. plain mnemonic (to size ∷ any size ∷ number (amount size) ∷ []) alus (scalar.Shift by) size ∷ [])
+
+-- ubfx Rd, Rn, #p, #w with p + w at most the bits
+abbrev pub field : Size → Row
+field size = record (plain (codes "ubfx") (to size ∷ from size ∷ number (amount size) ∷ number (range 1 (last_bit size + 1) 1) ∷ []) alus scalar.Field size) { sum = total.AtMost (last_bit size + 1) }
+
+-- csel Rd, Rn, Rm, cond
+abbrev pub select : Size → Row
+select size = scalar_row (codes "csel") (to size ∷ any size ∷ any size ∷ numeral shape.Condition (range 0 13 1) ∷ []) true false alu scalar.Select size
+
+abbrev pub scalar_rows : List Row
+scalar_rows =
+    sums (codes "add") false false 0 ++ (sums (codes "sub") true false 8
+    ++ (number_sums (codes "add") false false ++ (number_sums (codes "sub") true false
+    ++ (sums (codes "adds") false true 24 ++ (sums (codes "subs") true true 32
+    ++ (number_sums (codes "adds") false true ++ (number_sums (codes "subs") true true
+    ++ (carried (codes "adc") false false ++ (carried (codes "sbc") true false ++ (carried (codes "adcs") false true ++ (carried (codes "sbcs") true true
+    ++ (logics (codes "and") logic.And 56 ++ (logics (codes "orr") logic.Orr 66 ++ (logics (codes "eor") logic.Eor 76 ++ (logics (codes "bic") logic.Bic 86
+    ++ (both (λ size. plain (codes "mov") (to size ∷ any size ∷ []) alu scalar.Copy size ∷ [])
+    ++ (wide (codes "movz") to scalar.Wide 98 Bits64 ++ (wide (codes "movz") to scalar.Wide 100 Bits32
+    ++ (moved_number 98 Bits64 ∷ moved_number 100 Bits32 ∷ []
+    ++ (wide (codes "movk") tied scalar.Part 104 Bits64 ++ (wide (codes "movk") tied scalar.Part 106 Bits32
+    ++ (both (λ size. products (codes "mul") product.Alone [] size ∷ [])
+    ++ (both (λ size. products (codes "madd") product.Added (any size ∷ []) size ∷ [])
+    ++ (both (λ size. products (codes "msub") product.Subtracted (any size ∷ []) size ∷ [])
+    ++ (high_product (codes "umulh") false ∷ high_product (codes "smulh") true ∷ []
+    ++ (long_product (codes "umull") false ∷ long_product (codes "smull") true ∷ []
+    ++ (both (λ size. plain (codes "extr") (to size ∷ any size ∷ any size ∷ number (amount size) ∷ []) alus scalar.Extract size ∷ [])
+    ++ (shifts (codes "lsl") shift.Lsl ++ (shifts (codes "lsr") shift.Lsr ++ (shifts (codes "asr") shift.Asr ++ (shifts (codes "ror") shift.Ror
+    ++ (both (λ size. field size ∷ []) ++ both (λ size. select size ∷ [])))))))))))))))))))))))))))))))))
+
+-- Vector operands, by their arrangements and by their lanes.
+abbrev pub arrangement_name : Arrangement → Name
+arrangement_name Bytes8 = name.Lanes8b
+arrangement_name Bytes16 = name.Lanes16b
+arrangement_name Halves4 = name.Lanes4h
+arrangement_name Halves8 = name.Lanes8h
+arrangement_name Words2 = name.Lanes2s
+arrangement_name Words4 = name.Lanes4s
+arrangement_name Doubles2 = name.Lanes2d
+
+abbrev pub lane_bits : Arrangement → ℕ
+lane_bits Bytes8 = 8
+lane_bits Bytes16 = 8
+lane_bits Halves4 = 16
+lane_bits Halves8 = 16
+lane_bits Words2 = 32
+lane_bits Words4 = 32
+lane_bits Doubles2 = 64
+
+abbrev pub lane_name : Lane → Name
+lane_name Byte = name.LaneB
+lane_name Half = name.LaneH
+lane_name Word = name.LaneS
+lane_name Double = name.LaneD
+
+-- the last index of a lane of a whole register
+abbrev pub last_lane : Lane → ℕ
+last_lane Byte = 15
+last_lane Half = 7
+last_lane Word = 3
+last_lane Double = 1
+
+-- the lane of an arrangement
+abbrev pub lane_in : Arrangement → Lane
+lane_in Bytes8 = Byte
+lane_in Bytes16 = Byte
+lane_in Halves4 = Half
+lane_in Halves8 = Half
+lane_in Words2 = Word
+lane_in Words4 = Word
+lane_in Doubles2 = Double
+
+abbrev pub lanes : Role → Arrangement → Operand
+lanes role t = register (shape.Lanes (arrangement_name t)) role vectors
+
+abbrev pub lane : Role → Lane → Operand
+lane role e = lane_of (lane_name e) role vectors (last_lane e)
+
+-- the one element of a product: a halfword is of v0 to v15
+abbrev pub element : Lane → Operand
+element Half = lane_of name.LaneH In low_vectors 7
+element e = lane In e
+
+-- the register that a lane goes to or comes from
+abbrev pub general_size : Lane → Size
+general_size Double = Bits64
+general_size e = Bits32
+
+abbrev pub vector_row : List ℕ → List Operand → ℕ → Vector → Row
+vector_row mnemonic operands class op = row mnemonic operands false false class (meaning.Vector op)
+
+-- the arrangements
+abbrev pub bytes : List Arrangement
+bytes = Bytes8 ∷ Bytes16 ∷ []
+
+abbrev pub halves_and_words : List Arrangement
+halves_and_words = Halves4 ∷ Halves8 ∷ Words2 ∷ Words4 ∷ []
+
+abbrev pub but_doubles : List Arrangement
+but_doubles = bytes ++ halves_and_words
+
+abbrev pub all : List Arrangement
+all = but_doubles ++ Doubles2 ∷ []
+
+abbrev pub all_lanes : List Lane
+all_lanes = Byte ∷ Half ∷ Word ∷ Double ∷ []
+
+-- a row for each of some arrangements
+unfoldable pub each : {A : Type 0} → (A → Row) → List A → List Row
+each row [] = []
+each row (t ∷ ts) = row t ∷ each row ts
+
+-- op Vd.T, Vn.T, Vm.T, where Vd is written, or is also read
+abbrev pub lanewise : List ℕ → LaneOp → Role → ℕ → List Arrangement → List Row
+lanewise mnemonic op role class ts = each (λ t. vector_row mnemonic (lanes role t ∷ lanes In t ∷ lanes In t ∷ []) class (vector.Lanewise op t)) ts
+
+-- op Vd.T, Vn.T, Vm.e[i]
+abbrev pub by_element : List ℕ → LaneOp → Role → List Row
+by_element mnemonic op role = each (λ t. vector_row mnemonic (lanes role t ∷ lanes In t ∷ element (lane_in t) ∷ []) vmul (vector.ByElement op t)) halves_and_words
+
+-- op Vd.Ta, Vn.Tb, Vm.Tb, where lanes of Ta have twice the bits of those of Tb
+abbrev pub narrow_low : Arrangement → Arrangement
+narrow_low Halves8 = Bytes8
+narrow_low Words4 = Halves4
+narrow_low _ = Words2
+
+abbrev pub narrow_high : Arrangement → Arrangement
+narrow_high Halves8 = Bytes16
+narrow_high Words4 = Halves8
+narrow_high _ = Words4
+
+abbrev pub narrow_of : Bool → Arrangement → Arrangement
+narrow_of false t = narrow_low t
+narrow_of true t = narrow_high t
+
+abbrev pub target : Bool → Role
+target false = Out
+target true = Tied
+
+abbrev pub long : List ℕ → Bool → Bool → Bool → List Row
+long mnemonic signed adds high =
+    each (λ t. vector_row mnemonic (lanes (target adds) t ∷ lanes In (narrow_of high t) ∷ lanes In (narrow_of high t) ∷ []) vmul (vector.Long signed adds high t))
+    (Halves8 ∷ Words4 ∷ Doubles2 ∷ [])
+
+-- op Vd.T, Vn.T, #k: to the left by less than the bits of a lane, to the right by 1 to all of them
+abbrev pub left_shifts : List ℕ → LaneShift → Role → List Row
+left_shifts mnemonic op role = each (λ t. vector_row mnemonic (lanes role t ∷ lanes In t ∷ number (range 0 (lane_bits t - 1) 1) ∷ []) vshift (vector.Shift op t)) all
+
+abbrev pub right_shifts : List ℕ → LaneShift → Role → List Row
+right_shifts mnemonic op role = each (λ t. vector_row mnemonic (lanes role t ∷ lanes In t ∷ number (range 1 (lane_bits t) 1) ∷ []) vshift (vector.Shift op t)) all
+
+-- xtn Vd.Ta, Vn.Tb, where lanes of Tb have twice the bits of those of Ta
+abbrev pub wide_of : Arrangement → Arrangement
+wide_of Bytes8 = Halves8
+wide_of Halves4 = Words4
+wide_of _ = Doubles2
+
+abbrev pub narrowed : List Row
+narrowed = each (λ t. vector_row (codes "xtn") (lanes Out t ∷ lanes In (wide_of t) ∷ []) vshift (vector.Narrow t)) (Bytes8 ∷ Halves4 ∷ Words2 ∷ [])
+
+abbrev pub permuted : List ℕ → Permutation → List Row
+permuted mnemonic op = each (λ t. vector_row mnemonic (lanes Out t ∷ lanes In t ∷ lanes In t ∷ []) vperm (vector.Permute op t)) all
+
+-- ext Vd.T, Vn.T, Vm.T, #k
+abbrev pub extracted : Arrangement → ℕ → Row
+extracted t most = vector_row (codes "ext") (lanes Out t ∷ lanes In t ∷ lanes In t ∷ number (range 0 most 1) ∷ []) vperm (vector.Extract t)
+
+-- dup Vd.T, Rn; ins Vd.e[i], Rn; ins Vd.e[i], Vn.e[j]; umov Rd, Vn.e[i]
+abbrev pub dup_general : Arrangement → Row
+dup_general t = vector_row (codes "dup") (lanes Out t ∷ from (general_size (lane_in t)) ∷ []) vxfer (vector.DupGeneral t)
+
+abbrev pub insert_general : Lane → Row
+insert_general e = vector_row (codes "ins") (lane Tied e ∷ from (general_size e) ∷ []) vxfer (vector.InsertGeneral e)
+
+abbrev pub insert_lane : Lane → Row
+insert_lane e = vector_row (codes "ins") (lane Tied e ∷ lane In e ∷ []) vperm (vector.InsertLane e)
+
+abbrev pub move_out : Lane → Row
+move_out e = vector_row (codes "umov") (to (general_size e) ∷ lane In e ∷ []) vxfer (vector.MoveOut e)
+
+-- sums, bitwise operations and products of lanes
+abbrev pub lane_sum_rows : List Row
+lane_sum_rows =
+    lanewise (codes "add") op.Add Out valu all ++ (lanewise (codes "sub") op.Sub Out valu all
+    ++ (lanewise (codes "and") op.And Out valu bytes ++ (lanewise (codes "orr") op.Orr Out valu bytes
+    ++ (lanewise (codes "eor") op.Eor Out valu bytes ++ (lanewise (codes "bic") op.Bic Out valu bytes
+    ++ (each (λ t. vector_row (codes "mov") (lanes Out t ∷ lanes In t ∷ []) valu (vector.Copy t)) bytes
+    ++ (lanewise (codes "mul") op.Mul Out vmul but_doubles ++ (lanewise (codes "mla") op.Mla Tied vmul but_doubles ++ (lanewise (codes "mls") op.Mls Tied vmul but_doubles
+    ++ (lanewise (codes "sqdmulh") op.Sqdmulh Out vmul halves_and_words ++ (lanewise (codes "sqrdmulh") op.Sqrdmulh Out vmul halves_and_words
+    ++ (by_element (codes "mul") op.Mul Out ++ (by_element (codes "sqdmulh") op.Sqdmulh Out ++ (by_element (codes "sqrdmulh") op.Sqrdmulh Out
+    ++ (by_element (codes "mla") op.Mla Tied ++ (by_element (codes "mls") op.Mls Tied
+    ++ (long (codes "smull") true false false ++ (long (codes "umull") false false false ++ (long (codes "smlal") true true false ++ (long (codes "umlal") false true false
+    ++ (long (codes "smull2") true false true ++ (long (codes "umull2") false false true ++ (long (codes "smlal2") true true true ++ long (codes "umlal2") false true true)))))))))))))))))))))))
+
+-- shifts of lanes, and lanes in another order or from elsewhere
+abbrev pub lane_order_rows : List Row
+lane_order_rows =
+    left_shifts (codes "shl") lane_shift.Shl Out ++ (left_shifts (codes "sli") lane_shift.Sli Tied
+    ++ (right_shifts (codes "sshr") lane_shift.Sshr Out ++ (right_shifts (codes "ushr") lane_shift.Ushr Out
+    ++ (right_shifts (codes "srshr") lane_shift.Srshr Out ++ (right_shifts (codes "sri") lane_shift.Sri Tied
+    ++ (narrowed
+    ++ (permuted (codes "trn1") permutation.Trn1 ++ (permuted (codes "trn2") permutation.Trn2 ++ (permuted (codes "zip1") permutation.Zip1
+    ++ (permuted (codes "zip2") permutation.Zip2 ++ (permuted (codes "uzp1") permutation.Uzp1 ++ (permuted (codes "uzp2") permutation.Uzp2
+    ++ (extracted Bytes8 7 ∷ extracted Bytes16 15 ∷ []
+    ++ (each (λ t. vector_row (codes "dup") (lanes Out t ∷ lane In (lane_in t) ∷ []) vperm (vector.DupLane t)) all
+    ++ (each dup_general all ++ (each insert_general all_lanes ++ (each insert_lane all_lanes
+    ++ each move_out all_lanes)))))))))))))))))
+
+-- the forms, numbered in this order from 0
+unfoldable pub document : List Row
+document = scalar_rows ++ (lane_sum_rows ++ lane_order_rows)

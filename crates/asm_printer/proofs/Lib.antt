@@ -1,0 +1,5 @@
+pub mod PrintedText
+pub mod Kept
+pub mod Entries
+pub mod Listable
+pub mod WrittenRegion

@@ -1,0 +1,12 @@
+use Rattle.std.proofs.Common.{codes}
+use Rattle.std.specs.Fmt.{decimal}
+use Rattle.asm_printer.proofs.PrintedText.{ok-map, labelled}
+use Rattle.asm_printer.proofs.print.push_region_line.Goals as goal
+
+pub returns : goal.returns
+returns c =
+    ok-map c.push.result
+    (labelled c.args.out.now.items (codes "        // @slothy:region v=1 kind=straight n=") (decimal c.args.items) (codes " cycles=") (decimal c.args.cycles) (codes " stalls=") (decimal c.args.stalls) c.args.end.now
+    c.push_labelled.new.out.items c.push_labelled-2.new.out.items c.push_labelled-3.new.out.items c.push.new.out.items
+    c.in_ok-push_labelled.ensures c.in_ok-push_labelled-2.ensures c.in_ok-push_labelled-3.ensures)
+    c.push.ensures

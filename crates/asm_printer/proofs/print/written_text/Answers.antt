@@ -1,0 +1,15 @@
+use Rattle.std.proofs.Common.{◌≡◌, List, ℕ, ◌++◌, length, rules}
+use Rattle.sl_text.specs.Cut.{parts_of}
+use Rattle.asm_printer.specs.Printed.{region_line}
+use Rattle.asm_printer.proofs.PrintedText.{text-whole}
+use Rattle.asm_printer.proofs.print.written_text.Goals as goal
+
+pub returns : goal.returns
+returns g c = λ problem.
+    let end : List ℕ = c.line_end-end.result.now in
+    let first : c.push.new.out.items ≡ c.args.cut.now.before.now = search rules in
+    let head : c.push_region_line.new.out.items ≡ c.push.new.out.items ++ region_line (length c.args.schedule.now) c.args.count c.args.stalls end = search rules in
+    let whole : c.push-2.new.out.items ≡ c.push_items.new.out.items ++ c.args.cut.now.after.now = search rules in
+    text-whole g.A.Arch.printed (parts_of c.args.cut.now) problem c.args.schedule.now c.args.items.now c.args.cycles.now c.args.count c.args.stalls end
+    c.push.new.out.items c.push_region_line.new.out.items c.push_items.new.out.items c.push-2.new.out.items
+    c.line_end-end.ensures first head c.in_ok-push_items.ensures whole

@@ -1,0 +1,5 @@
+pub mod Statements
+pub mod Reading
+pub mod Views
+pub mod RegionViews
+pub mod Printed

@@ -1,0 +1,143 @@
+//! The region of a text: its instructions, or why it has none.
+ghost use Rattle.std.specs.Prelude.{◌≡◌, ◌≤◌, ◌<◌, ◌^◌, length, IfOk};
+ghost use Rattle.std.specs.List.{AllByRecursion};
+ghost use Rattle.sl_model.specs.Text.{whole_lines, cut};
+ghost use Rattle.sl_model.specs.Lawful.{IsValid};
+ghost use Rattle.sl_text.specs.Cut.{parts_of};
+ghost use Rattle.legal_space.specs.Testable.{AreValid};
+ghost use Rattle.asm_reader.specs.Reading as spec;
+ghost use Rattle.asm_reader.specs.RegionViews.{region_of};
+ghost use Rattle.asm_reader.specs.Views.{comments_of, Answers, Gives};
+
+use crate::items::{Manner, is_open_after, items_of};
+use crate::reasons::{ReadRefusal, Reason, Refusal, Wants};
+use sl_isa::{Arch, ArchName, Instr};
+use sl_text::{Comments, Cut, CutRefusal, cut_region, holds, split_line};
+use std::alloc::Global;
+
+/// A region: its text, cut at the markers, and its instructions.
+#[derive(Drop)]
+pub struct Region<'a> {
+    /// The text, cut at the markers.
+    pub cut: Cut<'a>,
+    /// The instructions.
+    pub items: Vec<Instr>,
+}
+
+// Which characters start a comment in the text of an architecture.
+fn comment_kind(name: ArchName) -> Comments
+    ensures { result ≡ comments_of name }
+{
+    match name {
+        ArchName::Arm64 => Comments::Slash,
+        ArchName::M4 => Comments::SlashAt,
+    }
+}
+
+// The refusal of a cut.
+fn cut_refusal(refusal: CutRefusal) -> Refusal
+    ensures { result ≡ spec.cut_refusal refusal }
+{
+    let line = match refusal {
+        CutRefusal::NoStart => 0,
+        CutRefusal::NoEnd => 0,
+        CutRefusal::Twice { line } => line,
+    };
+    let reason = Reason::Cut(refusal);
+    Refusal { line, reason }
+}
+
+// The parts of a text.
+fn cut_parts<'a>(text: &'a str, start: &str, end: &str) -> Result<Cut<'a>, Refusal>
+    requires { length text.now < 2 ^ 31 }
+    ensures answer { Answers parts_of result (spec.parts_or (cut start.now end.now text.now)) }
+    ensures before { IfOk result (λ cut. length cut.before.now ≤ length text.now) }
+    ensures body { IfOk result (λ cut. length cut.body.now ≤ length text.now) }
+    ensures first { IfOk result (λ cut. cut.first < 2 ^ 31) }
+{
+    match cut_region(text, start, end) {
+        Ok(cut) => Ok(cut),
+        Err(refusal) => Err(cut_refusal(refusal)),
+    }
+}
+
+// Does a line hold a word of a macro or of an alias?
+fn holds_unbuilt(line: &str) -> bool
+    ensures { result ≡ spec.holds_unbuilt line.now }
+{
+    if holds(line, ".macro") {
+        return true;
+    }
+    if holds(line, ".req") {
+        return true;
+    }
+    holds(line, ".unreq")
+}
+
+// The number of the first line of a text that holds such a word.
+fn first_unbuilt(text: &str) -> Option<u32>
+    requires { length text.now < 2 ^ 31 }
+    ensures { result ≡ spec.first_unbuilt 1 (whole_lines text.now) }
+{
+    let mut rest = text;
+    let mut number = 1;
+    while let Some((line, below)) = split_line(rest) {
+        if holds_unbuilt(line) {
+            return Some(number);
+        }
+        number += 1;
+        rest = below;
+    }
+    None
+}
+
+// Nothing before the region is what isn't built yet.
+fn built_parts(cut: Cut<'_>) -> Result<Cut<'_>, Refusal>
+    requires { length cut.before.now < 2 ^ 31 }
+    ensures answer { Answers parts_of result
+        (spec.unless_at (spec.first_unbuilt 1 (whole_lines cut.entry.before.now)) (parts_of cut.entry)) }
+    ensures same { IfOk result (λ built. built ≡ cut.entry) }
+{
+    match first_unbuilt(cut.before) {
+        Some(line) => Err(Refusal {
+            line,
+            reason: Reason::NotYet,
+        }),
+        None => Ok(cut),
+    }
+}
+
+/// The region of a text between the lines of two labels.
+///
+/// # Errors
+///
+/// The first line that is refused, and why: first the markers, then what isn't built yet before the region, and then
+/// what stands in it. Where memory runs out, [`ReadRefusal::NoMemory`].
+#[tactic(auto, unfolding(crate::specs::Reading::text_region))]
+pub fn read_region<'a, A: Arch>(
+    arch: &A,
+    alloc: Global,
+    text: &'a str,
+    start: &str,
+    end: &str,
+    wants: Wants,
+) -> Result<Region<'a>, ReadRefusal>
+    requires { length text.now < 2 ^ 31 }
+    ensures answer { Gives region_of result
+        (spec.text_region A.reads (comments_of A.isa.name) wants start.now end.now text.now) }
+    ensures few { IfOk result (λ region. length region.items.items ≤ wants.limit) }
+    ensures valid { IfOk result (λ region. AllByRecursion (IsValid A.isa) region.items.items) }
+    ensures each_valid { IfOk result (λ region. AreValid A.isa region.items.items) }
+{
+    let comments = comment_kind(arch.name());
+    let cut = cut_parts(text, start, end)?;
+    let cut = built_parts(cut)?;
+    let inside = is_open_after(comments, cut.before);
+    let manner = Manner {
+        alloc,
+        comments,
+        wants,
+    };
+    let items = items_of(arch, manner, cut.body, cut.first, inside)?;
+    Ok(Region { cut, items })
+}

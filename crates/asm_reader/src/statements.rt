@@ -1,0 +1,313 @@
+//! The statements of a line, and what is asked of one before it is read.
+ghost use Rattle.std.specs.Prelude.{◌≡◌, ◌<◌, ◌++◌, ⊤, not, [], ◌∷◌, codes, filter, length, IfOk, OnOk, MatchOption};
+ghost use Rattle.std.specs.List.{list_any};
+ghost use Rattle.std.specs.Str.{str_eq_ignore_ascii_case};
+ghost use Rattle.sl_text.specs.Tokens.{token_value};
+ghost use Rattle.asm_reader.specs.Views.{lexemes};
+ghost use Rattle.asm_reader.specs.Statements as spec;
+
+use sl_text::{Token, TokenKind};
+use std::alloc::{AllocError, Global};
+
+/// How a comment that is a note begins.
+const NOTE: &[u8; 11] = b"// @slothy:";
+
+// Whether a token is the mark with a code.
+fn is_mark(code: u8, token: &Token<'_>) -> bool
+    ensures { result ≡ spec.is_mark code (token_value token.now) }
+{
+    if token.kind != TokenKind::Mark {
+        return false;
+    }
+    let bytes = token.text.as_bytes();
+    if bytes.is_empty() {
+        return code == 0;
+    }
+    bytes[0] == code
+}
+
+// Whether a token is a word.
+fn is_word(token: &Token<'_>) -> bool
+    ensures { result ≡ spec.is_word token.now.kind }
+{
+    token.kind == TokenKind::Word
+}
+
+// Whether a token is a comment.
+fn is_comment(token: &Token<'_>) -> bool
+    ensures { result ≡ spec.is_comment token.now.kind }
+{
+    token.kind == TokenKind::Comment
+}
+
+/// The tokens of the first statement of some tokens, and those behind its `;` where it has one.
+pub(crate) fn first_statement<'t, 'a>(
+    tokens: &'t [Token<'a>],
+) -> (&'t [Token<'a>], Option<&'t [Token<'a>]>)
+    ensures first { MatchOption result.1
+        (spec.statements (lexemes tokens.now) ≡ lexemes result.0.now ∷ [])
+        (λ behind. spec.statements (lexemes tokens.now) ≡ lexemes result.0.now ∷ spec.statements (lexemes behind.now)) }
+    ensures behind { MatchOption result.1 ⊤ (λ behind. length behind.now < length tokens.now) }
+{
+    for (place, token) in tokens.iter().enumerate() {
+        if is_mark(b';', token) {
+            return (&tokens[..place], Some(&tokens[place + 1..]));
+        }
+    }
+    (tokens, None)
+}
+
+/// The tokens of a statement without its comments.
+pub(crate) fn words_of<'a>(
+    alloc: Global,
+    statement: &[Token<'a>],
+) -> Result<Vec<Token<'a>>, AllocError>
+    ensures { IfOk result (λ words. words.items ≡ filter (λ token. not (spec.is_comment token.kind)) statement.now) }
+{
+    statement
+        .iter()
+        .filter(|token| !is_comment(token))
+        .copied()
+        .collect(alloc)
+}
+
+// Whether a token is a note.
+fn is_note(token: &Token<'_>) -> bool
+    ensures { result ≡ spec.is_note (token_value token.now) }
+{
+    if !is_comment(token) {
+        return false;
+    }
+    let bytes = token.text.as_bytes();
+    let front = &bytes[..bytes.len().min(NOTE.len())];
+    front.eq_ignore_ascii_case(NOTE)
+}
+
+/// Whether a note stands in a statement.
+pub(crate) fn has_note(statement: &[Token<'_>]) -> bool
+    ensures { result ≡ list_any (λ token. spec.is_note (token_value token)) statement.now }
+{
+    statement.iter().any(|token| is_note(token))
+}
+
+// Whether a token stands directly behind another.
+fn stands_behind(before: &Token<'_>, token: &Token<'_>) -> bool
+    ensures { result ≡ spec.stands_behind (token_value before.now) (token_value token.now) }
+{
+    token.start as usize == before.start as usize + before.text.len()
+}
+
+// Whether a word names a directive that gives a register another name, or takes it away.
+fn is_alias_word(text: &str) -> bool
+    ensures { result ≡ spec.is_alias_word text.now }
+{
+    if text.eq_ignore_ascii_case("req") {
+        return true;
+    }
+    text.eq_ignore_ascii_case("unreq")
+}
+
+// Whether two tokens are `.` and a word directly behind it.
+fn is_dotted(dot: &Token<'_>, word: &Token<'_>) -> bool
+    ensures { result ≡ spec.is_dotted (token_value dot.now) (token_value word.now) }
+{
+    if !is_mark(b'.', dot) {
+        return false;
+    }
+    if !is_word(word) {
+        return false;
+    }
+    stands_behind(dot, word)
+}
+
+// Whether tokens begin with `.req` or `.unreq`.
+fn begins_alias(tokens: &[Token<'_>]) -> bool
+    ensures { result ≡ spec.begins_alias (lexemes tokens.now) }
+{
+    let [dot, word, ..] = tokens else {
+        return false;
+    };
+    if !is_dotted(dot, word) {
+        return false;
+    }
+    is_alias_word(word.text)
+}
+
+// Whether such a directive stands behind a first word, with a blank between.
+fn is_aliasing(tokens: &[Token<'_>]) -> bool
+    ensures { result ≡ spec.is_aliasing (lexemes tokens.now) }
+{
+    let [first, behind @ ..] = tokens else {
+        return false;
+    };
+    let [dot, ..] = behind else {
+        return false;
+    };
+    if !is_word(first) {
+        return false;
+    }
+    if stands_behind(first, dot) {
+        return false;
+    }
+    begins_alias(behind)
+}
+
+// Whether a statement begins with a label.
+fn has_label(tokens: &[Token<'_>]) -> bool
+    ensures { result ≡ spec.has_label (lexemes tokens.now) }
+{
+    let [first, colon, ..] = tokens else {
+        return false;
+    };
+    if !is_word(first) {
+        return false;
+    }
+    if !is_mark(b':', colon) {
+        return false;
+    }
+    stands_behind(first, colon)
+}
+
+// Whether a statement begins with `.`.
+fn begins_with_dot(tokens: &[Token<'_>]) -> bool
+    ensures { result ≡ spec.begins_with_dot (lexemes tokens.now) }
+{
+    let [first, ..] = tokens else {
+        return false;
+    };
+    is_mark(b'.', first)
+}
+
+// Whether two tokens are a suffix of the name that ends with a token: `.` and a word, with no blank.
+fn is_suffix(before: &Token<'_>, dot: &Token<'_>, word: &Token<'_>) -> bool
+    ensures { result ≡ spec.is_suffix (token_value before.now) (token_value dot.now) (token_value word.now) }
+{
+    if !stands_behind(before, dot) {
+        return false;
+    }
+    is_dotted(dot, word)
+}
+
+// Adds a suffix to a name. Where memory runs out, a part of it may be there.
+fn push_suffix(name: &mut Vec<u8>, word: &str) -> Result<(), AllocError>
+    ensures { OnOk result (name.new.items ≡ name.old.items ++ (codes "." ++ word.now)) }
+{
+    name.push(b'.')?;
+    name.extend_from_slice(word.as_bytes())
+}
+
+// Adds to a name the suffixes that stand behind its first word. Where memory runs out, some of them may be there.
+fn push_suffixes(
+    name: &mut Vec<u8>,
+    first: &Token<'_>,
+    tokens: &[Token<'_>],
+) -> Result<(), AllocError>
+    ensures { OnOk result (name.new.items ≡ name.old.items ++ spec.suffixes (token_value first.now) (lexemes tokens.now)) }
+{
+    let mut before = *first;
+    let mut rest = tokens;
+    while let [dot, word, behind @ ..] = rest {
+        if !is_suffix(&before, dot, word) {
+            return Ok(());
+        }
+        push_suffix(name, word.text)?;
+        before = *word;
+        rest = behind;
+    }
+    Ok(())
+}
+
+// The mnemonic of a statement: its first word with the suffixes behind it.
+fn mnemonic(alloc: Global, tokens: &[Token<'_>]) -> Result<Vec<u8>, AllocError>
+    ensures { IfOk result (λ name. name.items ≡ spec.mnemonic (lexemes tokens.now)) }
+{
+    let mut name = Vec::new(alloc);
+    let [first, behind @ ..] = tokens else {
+        return Ok(name);
+    };
+    if !is_word(first) {
+        return Ok(name);
+    }
+    name.extend_from_slice(first.text.as_bytes())?;
+    push_suffixes(&mut name, first, behind)?;
+    Ok(name)
+}
+
+// Whether a mnemonic is one of a branch.
+fn is_branch(name: &[u8]) -> bool
+    ensures { result ≡ list_any (str_eq_ignore_ascii_case name.now) spec.branch_mnemonics }
+{
+    if name.eq_ignore_ascii_case(b"b") {
+        return true;
+    }
+    if name.eq_ignore_ascii_case(b"b.ne") {
+        return true;
+    }
+    if name.eq_ignore_ascii_case(b"bne") {
+        return true;
+    }
+    name.eq_ignore_ascii_case(b"cbnz")
+}
+
+// Whether a mnemonic is one of an access to memory that is read later.
+fn is_later_access(name: &[u8]) -> bool
+    ensures { result ≡ list_any (str_eq_ignore_ascii_case name.now) spec.access_mnemonics }
+{
+    if name.eq_ignore_ascii_case(b"ldr") {
+        return true;
+    }
+    if name.eq_ignore_ascii_case(b"str") {
+        return true;
+    }
+    if name.eq_ignore_ascii_case(b"ldur") {
+        return true;
+    }
+    if name.eq_ignore_ascii_case(b"stur") {
+        return true;
+    }
+    if name.eq_ignore_ascii_case(b"ldp") {
+        return true;
+    }
+    name.eq_ignore_ascii_case(b"stp")
+}
+
+// Whether a mnemonic is one of these.
+fn is_later_name(name: &[u8]) -> bool
+    ensures { result ≡ spec.is_later_name name.now }
+{
+    is_branch(name) || is_later_access(name)
+}
+
+// Whether the beginning of a statement says that it is read later: a directive, a new name for a register, a label.
+fn begins_unbuilt(tokens: &[Token<'_>]) -> bool
+    ensures { result ≡ spec.begins_unbuilt (lexemes tokens.now) }
+{
+    if begins_with_dot(tokens) {
+        return true;
+    }
+    if is_aliasing(tokens) {
+        return true;
+    }
+    has_label(tokens)
+}
+
+// Whether a symbolic register stands in a statement.
+fn has_symbol(tokens: &[Token<'_>]) -> bool
+    ensures { result ≡ list_any (λ token. spec.is_mark 60 (token_value token)) tokens.now }
+{
+    tokens.iter().any(|token| is_mark(b'<', token))
+}
+
+/// Whether a statement, without its comments, is one that is read later.
+pub(crate) fn is_unbuilt(alloc: Global, tokens: &[Token<'_>]) -> Result<bool, AllocError>
+    ensures { IfOk result (λ unbuilt. unbuilt ≡ spec.is_unbuilt (lexemes tokens.now)) }
+{
+    if begins_unbuilt(tokens) {
+        return Ok(true);
+    }
+    let name = mnemonic(alloc, tokens)?;
+    if is_later_name(&name) {
+        return Ok(true);
+    }
+    Ok(has_symbol(tokens))
+}

@@ -1,0 +1,11 @@
+pub mod Padded
+pub mod Banks
+pub mod Outputs
+pub mod Values
+pub mod Lawful
+pub mod Places
+pub mod Suits
+pub mod Ties
+pub mod Numbers
+pub mod Alone
+pub mod ReadValid

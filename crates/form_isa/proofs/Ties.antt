@@ -1,0 +1,145 @@
+-- Tied outputs are in the registers of the inputs that they are tied to.
+use Rattle.std.proofs.Common.{◌≡◌, ◌∙◌, sym, ap, subst, refl, ℕ, zero, suc, ◌+◌, Bool, true, false, cond, ◌&&◌, List, [], ◌∷◌, ◌++◌, length, arith}
+use Rattle.std.specs.Prelude.{Option, Some, None, is_some, slice_get}
+use Rattle.std.specs.List.{list_all, zip}
+use Rattle.std.proofs.lemmas.Bool.{and_from, eq-eqb}
+use Rattle.sl_model.specs.declared.register.Reg.{Reg}
+use Rattle.sl_model.specs.Register.{bank_number, same_bool, same_reg}
+use Rattle.sl_model.specs.Lawful.{is_some_reg, is_reg_at, is_tied_to}
+use Rattle.form_table.specs.Rows.{row_operands}
+use Rattle.form_table.specs.Reads.{is_picked, kept, picked}
+use Rattle.form_table.specs.declared.rows.Role.{Role}
+use Rattle.form_table.specs.declared.rows.Role.TheVariants as role
+use Rattle.form_table.specs.declared.rows.Operand.{Operand}
+use Rattle.form_table.specs.declared.rows.Row.{Row}
+use Rattle.form_table.specs.declared.spells.Held.{Held}
+use Rattle.form_table.specs.declared.reader.Pick.TheVariants as pick
+use Rattle.form_table.proofs.Again.{IsShaped, Shaped}
+use Rattle.form_isa.specs.Info.{classes, ties, padded_ties}
+use Rattle.form_isa.proofs.Places.{flags_among, read_regs, written_regs}
+
+-- a register is its own
+same_own : (b : Bool) → same_bool b b ≡ true
+same_own true = refl
+same_own false = refl
+
+reg-own : (r : Reg) → same_reg r r ≡ true
+unfolding same_reg
+reg-own r =
+    and_from _ _ (eq-eqb (bank_number r.bank) (bank_number r.bank) refl)
+    (and_from _ _ (same_own r.symbolic) (eq-eqb r.number r.number refl))
+
+-- From a place on, these registers stand in a list.
+abbrev pub StandFrom : List Reg → ℕ → List Reg → Type 0
+StandFrom ins from regs = (k : ℕ) (r : Reg) → slice_get regs k ≡ Some r → slice_get ins (from + k) ≡ Some r
+
+stand-first : (ins : List Reg) (from : ℕ) (r : Reg) (regs : List Reg) → StandFrom ins from (r ∷ regs) →
+    is_reg_at ins from r ≡ true
+stand-first ins from r regs h =
+    let here : from + 0 ≡ from = omega arith in
+    ap (λ o. is_some_reg o r) (ap (slice_get ins) (sym here) ∙ h 0 r refl) ∙ reg-own r
+
+stand-next : (ins : List Reg) (from : ℕ) (r : Reg) (regs : List Reg) → StandFrom ins from (r ∷ regs) →
+    StandFrom ins (from + 1) regs
+stand-next ins from r regs h k q e =
+    let same : from + suc k ≡ from + 1 + k = omega arith in
+    subst (λ n. slice_get ins n ≡ Some q) same (h (suc k) q e)
+
+-- Outputs are tied as these places say.
+abbrev AreTied : List Reg → List Reg → List (Option ℕ) → Type 0
+AreTied ins outs places = list_all (is_tied_to ins) (zip outs places) ≡ true
+
+untied : (ins : List Reg) (n : ℕ) (outs : List Reg) → AreTied ins outs (padded_ties n [])
+unfolding padded_ties
+untied ins zero [] = refl
+untied ins zero (r ∷ outs) = refl
+untied ins (suc n) [] = refl
+untied ins (suc n) (r ∷ outs) = untied ins n outs
+
+one-free : (ins : List Reg) (r : Reg) (outs : List Reg) (n : ℕ) (places : List (Option ℕ)) →
+    ((m : ℕ) → AreTied ins outs (padded_ties m places)) →
+    AreTied ins (r ∷ outs) (padded_ties n (None ∷ places))
+unfolding padded_ties
+one-free ins r outs zero places rest = refl
+one-free ins r outs (suc n) places rest = rest n
+
+one-tied : (ins : List Reg) (r : Reg) (outs : List Reg) (n next : ℕ) (places : List (Option ℕ)) → is_reg_at ins next r ≡ true →
+    ((m : ℕ) → AreTied ins outs (padded_ties m places)) → AreTied ins (r ∷ outs) (padded_ties n (Some next ∷ places))
+unfolding padded_ties
+one-tied ins r outs zero next places here rest = refl
+one-tied ins r outs (suc n) next places here rest =
+    ap (λ b. b && list_all (is_tied_to ins) (zip outs (padded_ties n places))) here ∙ rest n
+
+-- the places of an operand and of those behind it
+abbrev placed : Bool → Role → ℕ → (ℕ → List (Option ℕ)) → List (Option ℕ)
+placed has r next behind =
+    cond (cond has (is_picked pick.Tied r) false) (Some next ∷ behind (next + 1))
+    (cond (cond has (is_picked pick.Written r) false) (None ∷ behind next) (behind next))
+
+abbrev RestTied : List Reg → List Reg → List Reg → (ℕ → List (Option ℕ)) → Type 0
+RestTied ins tied outs behind = (n next : ℕ) → StandFrom ins next tied → AreTied ins outs (padded_ties n (behind next))
+
+step-tied : (ins : List Reg) (r : Role) (o : Option Reg) (tied written more : List Reg) (n next : ℕ)
+    (behind : ℕ → List (Option ℕ)) →
+    StandFrom ins next (kept (is_picked pick.Tied r) o tied) → RestTied ins tied (written ++ more) behind →
+    AreTied ins (kept (is_picked pick.Written r) o written ++ more) (padded_ties n (placed (is_some o) r next behind))
+step-tied ins role.In None tied written more n next behind h rest = rest n next h
+step-tied ins role.Out None tied written more n next behind h rest = rest n next h
+step-tied ins role.Tied None tied written more n next behind h rest = rest n next h
+step-tied ins role.Base None tied written more n next behind h rest = rest n next h
+step-tied ins role.Back None tied written more n next behind h rest = rest n next h
+step-tied ins role.In (Some r) tied written more n next behind h rest = rest n next h
+step-tied ins role.Out (Some r) tied written more n next behind h rest =
+    one-free ins r (written ++ more) n (behind next) (λ m. rest m next h)
+step-tied ins role.Tied (Some r) tied written more n next behind h rest =
+    one-tied ins r (written ++ more) n next (behind (next + 1)) (stand-first ins next r tied h)
+    (λ m. rest m (next + 1) (stand-next ins next r tied h))
+step-tied ins role.Base (Some r) tied written more n next behind h rest = rest n next h
+step-tied ins role.Back (Some r) tied written more n next behind h rest = rest n next h
+
+operands-tied : (ins : List Reg) (operands : List Operand) (helds : List Held) (more : List Reg) (n next : ℕ) →
+    Shaped operands helds →
+    StandFrom ins next (picked pick.Tied operands helds) →
+    AreTied ins (picked pick.Written operands helds ++ more) (padded_ties n (ties next operands))
+unfolding picked ties
+operands-tied ins [] [] more n next s h = untied ins n more
+operands-tied ins [] (held ∷ helds) more n next s h = absurd s
+operands-tied ins (operand ∷ operands) [] more n next s h = absurd s
+operands-tied ins (operand ∷ operands) (held ∷ helds) more n next s h =
+    let shaped : IsShaped operand held = s.0 in
+    let written : List Reg = picked pick.Written operands helds in
+    let outs : List Reg = kept (is_picked pick.Written operand.role) held.register written ++ more in
+    let behind : ℕ → List (Option ℕ) = λ from. ties from operands in
+    subst (λ has. AreTied ins outs (padded_ties n (placed has operand.role next behind))) shaped.register
+    (step-tied ins operand.role held.register (picked pick.Tied operands helds) written more n next behind h
+    (λ m from g. operands-tied ins operands helds more m from s.1 g))
+
+-- what stands behind a list, and what stands in front
+behind-at : {A : Type 0} (front back : List A) (k : ℕ) → slice_get (front ++ back) (length front + k) ≡ slice_get back k
+behind-at [] back k = let same : 0 + k ≡ k = omega arith in ap (slice_get back) same
+behind-at (x ∷ front) back k =
+    let same : suc (length front) + k ≡ suc (length front + k) = omega arith in
+    ap (slice_get (x ∷ (front ++ back))) same ∙ behind-at front back k
+
+front-at : {A : Type 0} (front back : List A) (k : ℕ) (x : A) → slice_get front k ≡ Some x →
+    slice_get (front ++ back) k ≡ Some x
+front-at [] back k x e = absurd cc
+front-at (y ∷ front) back zero x e = e
+front-at (y ∷ front) back (suc k) x e = front-at front back k x e
+
+tied-stand : (read tied more : List Reg) → StandFrom (read ++ (tied ++ more)) (length read) tied
+tied-stand read tied more k r e = behind-at read (tied ++ more) k ∙ front-at tied more k r e
+
+-- The outputs of a row's instruction are tied as the row says.
+pub row-tied : (row : Row) (helds : List Held) (n : ℕ) → Shaped (row_operands row) helds →
+    length (picked pick.Read (row_operands row) helds) ≡ length (classes pick.Read (row_operands row)) →
+    list_all (is_tied_to (read_regs row helds))
+    (zip (written_regs row helds) (padded_ties n
+    (ties (length (classes pick.Read (row_operands row))) (row_operands row)))) ≡ true
+row-tied row helds n s count =
+    operands-tied (read_regs row helds) (row_operands row) helds
+    (picked pick.Back (row_operands row) helds ++ flags_among row.sets_flags) n
+    (length (classes pick.Read (row_operands row))) s
+    (subst (λ from. StandFrom (read_regs row helds) from (picked pick.Tied (row_operands row) helds)) count
+    (tied-stand (picked pick.Read (row_operands row) helds) (picked pick.Tied (row_operands row) helds)
+    (flags_among row.reads_flags)))

@@ -1,0 +1,76 @@
+-- Tests of tables, which the checker computes: a row writes what its meaning gives, and its instructions are known by their
+-- numbers.
+use Rattle.std.specs.Prelude.{ℕ, ◌*◌, ◌==◌, ◌%◌, ◌/◌, ◌^◌, Bool, true, false, zero, suc, not, List, [], ◌∷◌, length, nat_le, if◌then◌else◌}
+use Rattle.sl_model.specs.declared.register.Bank.{Bank}
+use Rattle.sl_model.specs.declared.register.Bank.TheVariants as bank
+use Rattle.sl_model.specs.declared.register.RegSet.{RegSet}
+use Rattle.sl_model.specs.Lawful.{bank_bits}
+use Rattle.sl_isa.specs.declared.meaning.Scalar.{Scalar}
+use Rattle.sl_isa.specs.declared.meaning.Scalar.TheVariants as scalar
+use Rattle.sl_isa.specs.declared.meaning.Vector.{Vector}
+use Rattle.sl_isa.specs.declared.meaning.Vector.TheVariants as vector
+use Rattle.sl_isa.specs.declared.meaning.Meaning.{Meaning}
+use Rattle.sl_isa.specs.declared.meaning.Meaning.TheVariants as meaning
+use Rattle.form_table.specs.Rows.{row_operands}
+use Rattle.form_table.specs.Printed.{has_number}
+use Rattle.form_table.specs.declared.rows.Operand.{Operand}
+use Rattle.form_table.specs.declared.rows.Alias.{Alias}
+use Rattle.form_table.specs.declared.rows.Alias.TheVariants as alias
+use Rattle.form_table.specs.declared.rows.Row.{Row}
+use Rattle.form_isa.specs.TableIsa.{ranges}
+use Rattle.form_isa.specs.Info.{input_classes, output_classes}
+
+-- the banks of a meaning's outputs
+abbrev pub scalar_banks : Scalar → List Bank
+scalar_banks (scalar.Sum minus second carries true) = bank.General ∷ bank.Flags ∷ []
+scalar_banks _ = bank.General ∷ []
+
+abbrev pub vector_banks : Vector → List Bank
+vector_banks (vector.MoveOut lane) = bank.General ∷ []
+vector_banks _ = bank.Vector ∷ []
+
+abbrev pub banks_of : Meaning → List Bank
+banks_of (meaning.Scalar op size) = scalar_banks op
+banks_of (meaning.Vector op) = vector_banks op
+
+-- Are all registers of a set of a bank, and none of them the zero register?
+abbrev pub are_of : Bank → RegSet → Bool
+are_of bank.General set = if bank_bits bank.General set == set.bits then not (set.bits / 2 ^ 31 % 2 == 1) else false
+are_of bank.Vector set = set.bits == bank_bits bank.Vector set * 2 ^ 32
+are_of bank.Flags set = set.bits == 2 ^ 64
+are_of bank.Stack set = false
+
+-- The same, and is there one? An output that no register suits would be none.
+abbrev pub is_only_of : Bank → RegSet → Bool
+is_only_of b set = if set.bits == 0 then false else are_of b set
+
+unfoldable pub are_only_of : List Bank → List RegSet → Bool
+are_only_of [] [] = true
+are_only_of [] (set ∷ sets) = false
+are_only_of (b ∷ banks) [] = false
+are_only_of (b ∷ banks) (set ∷ sets) = if is_only_of b set then are_only_of banks sets else false
+
+-- Is the number of the operand at a place the last one?
+unfoldable pub is_last_number : ℕ → List Operand → Bool
+is_last_number place [] = false
+is_last_number zero (operand ∷ operands) = if has_number operand.shape then length (ranges operands) == 0 else false
+is_last_number (suc place) (operand ∷ operands) = is_last_number place operands
+
+-- A number that makes a spelling one of another row where it is 0 is the last one, and has its place in an instruction.
+abbrev pub has_its_number : Alias → List Operand → Bool
+has_its_number alias.Own operands = true
+has_its_number (alias.As form) operands = true
+has_its_number (alias.Repeat form) operands = true
+has_its_number (alias.ZeroAs form place) operands =
+    if nat_le (length (ranges operands)) 3 then is_last_number place operands else false
+
+-- Is a row lawful: it has at most four inputs, writes what its meaning gives, and tells its own instructions by their numbers?
+abbrev pub is_lawful_row : Row → Bool
+is_lawful_row row =
+    if nat_le (length (input_classes row)) 4 then
+    (if are_only_of (banks_of row.meaning) (output_classes row) then has_its_number row.alias (row_operands row) else false)
+    else false
+
+unfoldable pub is_lawful_table : List Row → Bool
+is_lawful_table [] = true
+is_lawful_table (row ∷ rows) = if is_lawful_row row then is_lawful_table rows else false

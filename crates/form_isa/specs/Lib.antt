@@ -1,0 +1,3 @@
+pub mod Info
+pub mod TableIsa
+pub mod LawfulTable

@@ -1,0 +1,10 @@
+//! The instruction set of a table of rows.
+#![tactic(auto)]
+
+pub use exec::values_of;
+pub use info::info_of;
+
+mod exec;
+mod few_rows;
+mod info;
+pub mod laws;

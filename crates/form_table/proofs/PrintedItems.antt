@@ -1,0 +1,503 @@
+-- The items that the tokens of a printed instruction give: one for each slot.
+use Rattle.std.proofs.Common.{◌≡◌, ◌∙◌, ap, refl, ℕ, suc, ◌+◌, ◌-◌, ◌<◌, ◌^◌, ◌%◌, ◌==◌, Bool, true, false, cond, not, ◌&&◌, ◌||◌, List, [], ◌∷◌, ◌++◌, length, subst, arith}
+use Rattle.std.specs.Prelude.{ℤ, pos, negsuc, ◌-ℤ◌, nat_le, unwrap_or, Option, Some, None, option_and_then}
+use Rattle.std.specs.Fmt.{decimal}
+use Rattle.std.proofs.lemmas.Fmt.{decimal_by_steps}
+use Rattle.std.proofs.Math.IntN.{+ℤ_idl}
+use Rattle.std.proofs.lemmas.Bool.Decides.{nat_tests}
+use Rattle.sl_model.specs.declared.text.TokenKind.TheVariants.{Word, Number, Mark}
+use Rattle.sl_model.specs.Token.{Lexeme}
+use Rattle.form_table.specs.Numerals.{some_digits, digits_value, decimal_value, number_value}
+use Rattle.form_table.specs.Items.{Item, blank, mark, word, numeral, Found, is_free, is_apart, plain_number, signed_number, found_number, number_of, item_or, token_item, first_item, behind_blank, items_from}
+use Rattle.form_table.specs.Rows.{name_text}
+use Rattle.form_table.specs.Printed.{register_text, number_text, condition_text, slot_text}
+use Rattle.form_table.specs.declared.rows.Name.{Name}
+use Rattle.form_table.specs.declared.rows.Name.TheVariants as name
+use Rattle.form_table.specs.declared.rows.Slot.{Slot}
+use Rattle.form_table.specs.declared.rows.Slot.TheVariants as slot
+use Rattle.form_table.specs.declared.spells.Held.{Held}
+use Rattle.form_table.proofs.Decimals.{decimal_is_read}
+use Rattle.form_table.proofs.SlotItems.{slot_item}
+use Rattle.form_table.proofs.PrintedRuns.{both, token}
+use Rattle.form_table.proofs.PrintedPieces.{IsSmall, IsIndex, Piece, pieces_items, Before, may_follow, behind, may_end, flows, is_printed_mark, Fits, AllFit, Good}
+use Rattle.form_table.proofs.PrintedPieces as before
+use Rattle.form_table.proofs.PrintedTokens.{name_kind, number_tokens, slot_tokens, pieces_tokens, mark_cases}
+
+-- ---- numbers
+
+-- Does no second byte make a text hexadecimal?
+abbrev is_plain : List ℕ → Bool
+is_plain [] = true
+is_plain (a ∷ []) = true
+is_plain (a ∷ b ∷ text) = cond (b == 120) false (not (b == 88))
+
+no_hex : (x y z : Bool) → cond y false (not z) ≡ true → (x && (y || z)) ≡ false
+no_hex true true z e = absurd cc
+no_hex true false true e = absurd cc
+no_hex true false false e = refl
+no_hex false y z e = refl
+
+no_digits : None ≡ decimal_value []
+unfolding decimal_value
+no_digits = refl
+
+plain_value : (text : List ℕ) → is_plain text ≡ true → number_value text ≡ decimal_value text
+unfolding number_value
+plain_value [] e = no_digits
+plain_value (a ∷ []) e = refl
+plain_value (a ∷ b ∷ text) e =
+    ap (λ h. cond h (some_digits 16 text) (decimal_value (a ∷ b ∷ text))) (no_hex (a == 48) (b == 120) (b == 88) e)
+
+digit_plain : (d : ℕ) → d < 10 → cond (48 + d == 120) false (not (48 + d == 88)) ≡ true
+digit_plain d h = grind (arith, nat_tests)
+
+plain_more : (ds : List ℕ) (d : ℕ) → d < 10 → is_plain ds ≡ true → is_plain (ds ++ (48 + d) ∷ []) ≡ true
+plain_more [] d h e = refl
+plain_more (a ∷ []) d h e = digit_plain d h
+plain_more (a ∷ b ∷ ds) d h e = e
+
+decimal_plain : (n : ℕ) → n < 2 ^ 64 → is_plain (decimal n) ≡ true
+decimal_plain n h =
+    decimal_by_steps (λ n ds. is_plain ds ≡ true) (λ n small. refl)
+    (λ n ds some front. plain_more ds (n % 10) (omega arith) front) n h
+
+number_read : (n : ℕ) → n < 2 ^ 32 → number_value (decimal n) ≡ Some n
+number_read n h = plain_value (decimal n) (decimal_plain n (omega arith)) ∙ decimal_is_read n h
+
+-- the tokens of a number, of the marks before one, and of a name
+abbrev digits : ℕ → ℕ → Lexeme
+digits n place = token Number (decimal n) place
+
+abbrev dash : ℕ → Lexeme
+dash place = token Mark (45 ∷ []) place
+
+abbrev hash : ℕ → Lexeme
+hash place = token Mark (35 ∷ []) place
+
+abbrev name_token : Name → ℕ → Lexeme
+name_token n place = token (name_kind n) (name_text n) place
+
+-- a number with the tokens that belong to it
+abbrev found : ℕ → Bool → ℕ → Found
+found count negative value = record { count = count; negative = negative; value = value }
+
+plain_found : (n place : ℕ) (tokens : List Lexeme) → n < 2 ^ 32 →
+    plain_number (digits n place ∷ tokens) ≡ Some (found 1 false n)
+unfolding plain_number
+plain_found n place tokens h = ap (λ o. option_and_then (λ value. Some (found 1 false value)) o) (number_read n h)
+
+touching : (place : ℕ) → nat_le place place ≡ true
+touching place = grind (arith, nat_tests)
+
+signed_positive : (n place : ℕ) (tokens : List Lexeme) → n < 2 ^ 32 →
+    signed_number (digits n place ∷ tokens) ≡ Some (found 1 false n)
+unfolding signed_number
+signed_positive n place tokens h = plain_found n place tokens h
+
+abbrev negated : Option Found → Option Found
+negated o = option_and_then (λ f. Some (found 2 true f.value)) o
+
+signed_negative : (n place : ℕ) (tokens : List Lexeme) → n < 2 ^ 32 →
+    signed_number (dash place ∷ digits n (place + 1) ∷ tokens) ≡ Some (found 2 true n)
+unfolding signed_number
+signed_negative n place tokens h =
+    ap (λ b. option_and_then (λ behind. negated (plain_number behind)) (cond b (Some (digits n (place + 1) ∷ tokens)) None)) (touching (place + 1))
+    ∙ ap negated (plain_found n (place + 1) tokens h)
+
+-- the same as the number that a slot says
+abbrev signed_found : (o : Option ℤ) → Option Found
+signed_found None = None
+signed_found (Some (pos n)) = Some (found 1 false n)
+signed_found (Some (negsuc n)) = Some (found 2 true (suc n))
+
+signed_is : (o : Option ℤ) (place : ℕ) (tokens : List Lexeme) → IsSmall o →
+    signed_number (number_tokens place o ++ tokens) ≡ signed_found o
+signed_is None place tokens small = absurd small
+signed_is (Some (pos n)) place tokens small = signed_positive n place tokens small
+signed_is (Some (negsuc n)) place tokens small = signed_negative (suc n) place tokens small
+
+abbrev hashed : Option Found → Option Found
+hashed o = option_and_then (λ f. Some (found (f.count + 1) f.negative f.value)) o
+
+hash_is : (o : Option ℤ) (place : ℕ) (tokens : List Lexeme) → IsSmall o →
+    found_number (hash place ∷ (number_tokens (place + 1) o ++ tokens)) ≡ hashed (signed_found o)
+unfolding found_number
+hash_is None place tokens small = absurd small
+hash_is (Some (pos n)) place tokens small =
+    ap (λ b. option_and_then (λ behind. hashed (signed_number behind)) (cond b (Some (digits n (place + 1) ∷ tokens)) None)) (touching (place + 1))
+    ∙ ap hashed (signed_is (Some (pos n)) (place + 1) tokens small)
+hash_is (Some (negsuc n)) place tokens small =
+    let rest : List Lexeme = dash (place + 1) ∷ digits (suc n) (place + 1 + 1) ∷ tokens in
+    ap (λ b. option_and_then (λ behind. hashed (signed_number behind)) (cond b (Some rest) None)) (touching (place + 1))
+    ∙ ap hashed (signed_is (Some (negsuc n)) (place + 1) tokens small)
+
+minus : (n : ℕ) → pos 0 -ℤ pos (suc n) ≡ negsuc n
+minus n = +ℤ_idl (negsuc n)
+
+-- ---- one slot
+
+-- the tokens that a slot begins and ends with
+abbrev number_first : ℕ → Option ℤ → Lexeme
+number_first place None = token Number [] place
+number_first place (Some (pos n)) = digits n place
+number_first place (Some (negsuc n)) = dash place
+
+abbrev number_last : ℕ → Option ℤ → Lexeme
+number_last place None = token Number [] place
+number_last place (Some (pos n)) = digits n place
+number_last place (Some (negsuc n)) = digits (suc n) (place + 1)
+
+abbrev first_token : ℕ → Held → Slot → Lexeme
+first_token place held slot.Gap = token Word [] place
+first_token place held (slot.Mark code) = token Mark (code ∷ []) place
+first_token place held (slot.Name n) = name_token n place
+first_token place held (slot.Register letter) = token Word (register_text letter held.register) place
+first_token place held slot.Number = hash place
+first_token place held slot.Index = number_first place held.number
+first_token place held slot.Condition = token Word (condition_text held.number) place
+
+abbrev last_token : ℕ → Held → Slot → Lexeme
+last_token place held slot.Gap = token Word [] place
+last_token place held (slot.Mark code) = token Mark (code ∷ []) place
+last_token place held (slot.Name n) = name_token n place
+last_token place held (slot.Register letter) = token Word (register_text letter held.register) place
+last_token place held slot.Number = number_last (place + 1) held.number
+last_token place held slot.Index = number_last place held.number
+last_token place held slot.Condition = token Word (condition_text held.number) place
+
+-- items of one, two and three tokens
+single : (t u : Lexeme) (tokens : List Lexeme) (item : Item) → first_item (u ∷ tokens) ≡ (item, 1) →
+    items_from t 0 (u ∷ tokens) ≡ behind_blank (is_apart t u) item ++ items_from u 0 tokens
+unfolding items_from
+single t u tokens item e = ap (λ f. behind_blank (is_apart t u) f.0 ++ items_from u (f.1 - 1) tokens) e
+
+double : (t u v : Lexeme) (tokens : List Lexeme) (item : Item) → first_item (u ∷ v ∷ tokens) ≡ (item, 2) →
+    items_from t 0 (u ∷ v ∷ tokens) ≡ behind_blank (is_apart t u) item ++ items_from v 0 tokens
+unfolding items_from
+double t u v tokens item e = ap (λ f. behind_blank (is_apart t u) f.0 ++ items_from u (f.1 - 1) (v ∷ tokens)) e
+
+triple : (t u v w : Lexeme) (tokens : List Lexeme) (item : Item) → first_item (u ∷ v ∷ w ∷ tokens) ≡ (item, 3) →
+    items_from t 0 (u ∷ v ∷ w ∷ tokens) ≡ behind_blank (is_apart t u) item ++ items_from w 0 tokens
+unfolding items_from
+triple t u v w tokens item e = ap (λ f. behind_blank (is_apart t u) f.0 ++ items_from u (f.1 - 1) (v ∷ w ∷ tokens)) e
+
+first_number : (u : Lexeme) (tokens : List Lexeme) (f : Found) → found_number (u ∷ tokens) ≡ Some f →
+    first_item (u ∷ tokens) ≡ (numeral (number_of f), f.count)
+unfolding first_item
+first_number u tokens f e = ap (λ o. item_or o u) e
+
+no_number : (u : Lexeme) (tokens : List Lexeme) → found_number (u ∷ tokens) ≡ None → first_item (u ∷ tokens) ≡ (token_item u, 1)
+unfolding first_item
+no_number u tokens e = ap (λ o. item_or o u) e
+
+word_first : (w : List ℕ) (place : ℕ) (tokens : List Lexeme) → first_item (token Word w place ∷ tokens) ≡ (word w, 1)
+unfolding found_number signed_number plain_number
+word_first w place tokens = no_number (token Word w place) tokens refl
+
+mark_first : (place : ℕ) (tokens : List Lexeme) (code : ℕ) → is_printed_mark code ≡ true →
+    first_item (token Mark (code ∷ []) place ∷ tokens) ≡ (mark code, 1)
+unfolding found_number signed_number plain_number
+mark_first place tokens code is =
+    no_number (token Mark (code ∷ []) place) tokens
+    (mark_cases (λ c. found_number (token Mark (c ∷ []) place ∷ tokens) ≡ None) refl refl refl refl refl code is)
+
+name_none : (n : Name) (place : ℕ) (tokens : List Lexeme) → found_number (name_token n place ∷ tokens) ≡ None
+unfolding found_number signed_number plain_number number_value decimal_value digits_value
+name_none n place tokens = elim n as (λ n. found_number (name_token n place ∷ tokens) ≡ None) [
+  | name.Lsl ↦ refl
+  | name.Lsr ↦ refl
+  | name.Asr ↦ refl
+  | name.Ror ↦ refl
+  | name.Lanes8b ↦ refl
+  | name.Lanes16b ↦ refl
+  | name.Lanes4h ↦ refl
+  | name.Lanes8h ↦ refl
+  | name.Lanes2s ↦ refl
+  | name.Lanes4s ↦ refl
+  | name.Lanes2d ↦ refl
+  | name.LaneB ↦ refl
+  | name.LaneH ↦ refl
+  | name.LaneS ↦ refl
+  | name.LaneD ↦ refl
+]
+
+name_item : (n : Name) (place : ℕ) → token_item (name_token n place) ≡ word (name_text n)
+name_item n place = elim n as (λ n. token_item (name_token n place) ≡ word (name_text n)) [
+  | name.Lsl ↦ refl
+  | name.Lsr ↦ refl
+  | name.Asr ↦ refl
+  | name.Ror ↦ refl
+  | name.Lanes8b ↦ refl
+  | name.Lanes16b ↦ refl
+  | name.Lanes4h ↦ refl
+  | name.Lanes8h ↦ refl
+  | name.Lanes2s ↦ refl
+  | name.Lanes4s ↦ refl
+  | name.Lanes2d ↦ refl
+  | name.LaneB ↦ refl
+  | name.LaneH ↦ refl
+  | name.LaneS ↦ refl
+  | name.LaneD ↦ refl
+]
+
+name_first : (n : Name) (place : ℕ) (tokens : List Lexeme) →
+    first_item (name_token n place ∷ tokens) ≡ (word (name_text n), 1)
+name_first n place tokens = no_number (name_token n place) tokens (name_none n place tokens) ∙ ap (λ item. (item, 1)) (name_item n place)
+
+hash_given : (t : Lexeme) (place : ℕ) (o : Option ℤ) (tokens : List Lexeme) → IsSmall o →
+    items_from t 0 (hash place ∷ (number_tokens (place + 1) o ++ tokens))
+    ≡ behind_blank (is_apart t (hash place)) (numeral (unwrap_or o (pos 0))) ++ items_from (number_last (place + 1) o) 0 tokens
+hash_given t place None tokens small = absurd small
+hash_given t place (Some (pos n)) tokens small =
+    double t (hash place) (digits n (place + 1)) tokens (numeral (pos n))
+    (first_number (hash place) (digits n (place + 1) ∷ tokens) (found 2 false n) (hash_is (Some (pos n)) place tokens small))
+hash_given t place (Some (negsuc n)) tokens small =
+    let rest : List Lexeme = dash (place + 1) ∷ digits (suc n) (place + 1 + 1) ∷ tokens in
+    triple t (hash place) (dash (place + 1)) (digits (suc n) (place + 1 + 1)) tokens (numeral (negsuc n))
+    (first_number (hash place) rest (found 3 true (suc n)) (hash_is (Some (negsuc n)) place tokens small) ∙ ap (λ z. (numeral z, 3)) (minus n))
+
+index_found : (n place : ℕ) (tokens : List Lexeme) → n < 2 ^ 32 →
+    found_number (digits n place ∷ tokens) ≡ Some (found 1 false n)
+unfolding found_number
+index_found n place tokens small = signed_positive n place tokens small
+
+index_given : (t : Lexeme) (place : ℕ) (o : Option ℤ) (tokens : List Lexeme) → IsIndex o →
+    items_from t 0 (number_tokens place o ++ tokens)
+    ≡ behind_blank (is_apart t (number_first place o)) (numeral (unwrap_or o (pos 0))) ++ items_from (number_last place o) 0 tokens
+index_given t place None tokens index = absurd index
+index_given t place (Some (pos n)) tokens index =
+    single t (digits n place) tokens (numeral (pos n)) (first_number (digits n place) tokens (found 1 false n) (index_found n place tokens index))
+index_given t place (Some (negsuc n)) tokens index = absurd index
+
+word_given : (t : Lexeme) (place : ℕ) (w : List ℕ) (tokens : List Lexeme) →
+    items_from t 0 (token Word w place ∷ tokens)
+    ≡ behind_blank (is_apart t (token Word w place)) (word w) ++ items_from (token Word w place) 0 tokens
+word_given t place w tokens = single t (token Word w place) tokens (word w) (word_first w place tokens)
+
+-- Has a slot an item of its own token?
+abbrev has_token : Slot → Bool
+has_token slot.Gap = false
+has_token (slot.Mark code) = true
+has_token (slot.Name n) = true
+has_token (slot.Register letter) = true
+has_token slot.Number = true
+has_token slot.Index = true
+has_token slot.Condition = true
+
+slot_given : (t : Lexeme) (place : ℕ) (held : Held) (s : Slot) (tokens : List Lexeme) → Fits held s → has_token s ≡ true →
+    items_from t 0 (slot_tokens place held s ++ tokens)
+    ≡ behind_blank (is_apart t (first_token place held s)) (slot_item held s) ++ items_from (last_token place held s) 0 tokens
+unfolding slot_item
+slot_given t place held slot.Gap tokens fit has = absurd cc
+slot_given t place held (slot.Mark code) tokens fit has =
+    single t (token Mark (code ∷ []) place) tokens (mark code) (mark_first place tokens code fit)
+slot_given t place held (slot.Name n) tokens fit has = single t (name_token n place) tokens (word (name_text n)) (name_first n place tokens)
+slot_given t place held (slot.Register letter) tokens fit has = word_given t place (register_text letter held.register) tokens
+slot_given t place held slot.Number tokens fit has = hash_given t place held.number tokens fit
+slot_given t place held slot.Index tokens fit has = index_given t place held.number tokens fit
+slot_given t place held slot.Condition tokens fit has = word_given t place (condition_text held.number) tokens
+
+-- ---- where a slot stands
+
+abbrev end_of : Lexeme → ℕ
+end_of t = t.start + length t.text
+
+-- A token stands before a place: directly, if it is a word or a number; so that no blank counts, if it is a mark; with a
+-- blank between that counts.
+abbrev Stands : Before → Lexeme → ℕ → Type 0
+Stands before.name t place = (is_free t ≡ false) × (place ≡ end_of t)
+Stands before.mark t place = cond (nat_le place (end_of t)) true (is_free t) ≡ true
+Stands before.blank t place = (is_free t ≡ false) × (nat_le place (end_of t) ≡ false)
+
+abbrev is_blank : Before → Bool
+is_blank before.name = false
+is_blank before.mark = false
+is_blank before.blank = true
+
+joined : (a f g : Bool) → cond a true f ≡ true → cond a false (cond f false g) ≡ false
+joined true f g e = refl
+joined false true g e = refl
+joined false false g e = absurd cc
+
+apart_is : (b : Before) (t u : Lexeme) → Stands b t u.start → cond (is_blank b) (is_free u) false ≡ false → is_apart t u ≡ is_blank b
+apart_is before.name t u s free =
+    ap (λ n. cond (nat_le n (end_of t)) false (cond (is_free t) false (not (is_free u)))) s.1
+    ∙ ap (λ b. cond b false (cond (is_free t) false (not (is_free u)))) (touching (end_of t))
+apart_is before.mark t u s free = joined (nat_le u.start (end_of t)) (is_free t) (not (is_free u)) s
+apart_is before.blank t u s free =
+    ap (λ b. cond b false (cond (is_free t) false (not (is_free u)))) s.1
+    ∙ (ap (λ b. cond b false (not (is_free u))) s.0 ∙ ap not free)
+
+number_start : (place : ℕ) (o : Option ℤ) → place ≡ (number_first place o).start
+number_start place None = refl
+number_start place (Some (pos n)) = refl
+number_start place (Some (negsuc n)) = refl
+
+first_start : (place : ℕ) (held : Held) (s : Slot) → place ≡ (first_token place held s).start
+first_start place held slot.Gap = refl
+first_start place held (slot.Mark code) = refl
+first_start place held (slot.Name n) = refl
+first_start place held (slot.Register letter) = refl
+first_start place held slot.Number = refl
+first_start place held slot.Index = number_start place held.number
+first_start place held slot.Condition = refl
+
+name_bound : (n : Name) (place : ℕ) → is_free (name_token n place) ≡ false
+name_bound n place = elim n as (λ n. is_free (name_token n place) ≡ false) [
+  | name.Lsl ↦ refl
+  | name.Lsr ↦ refl
+  | name.Asr ↦ refl
+  | name.Ror ↦ refl
+  | name.Lanes8b ↦ refl
+  | name.Lanes16b ↦ refl
+  | name.Lanes4h ↦ refl
+  | name.Lanes8h ↦ refl
+  | name.Lanes2s ↦ refl
+  | name.Lanes4s ↦ refl
+  | name.Lanes2d ↦ refl
+  | name.LaneB ↦ refl
+  | name.LaneH ↦ refl
+  | name.LaneS ↦ refl
+  | name.LaneD ↦ refl
+]
+
+index_bound : (place : ℕ) (o : Option ℤ) → is_free (number_first place o) ≡ false
+index_bound place None = refl
+index_bound place (Some (pos n)) = refl
+index_bound place (Some (negsuc n)) = refl
+
+first_bound : (place : ℕ) (held : Held) (s : Slot) → may_follow before.blank (behind s) ≡ true →
+    is_free (first_token place held s) ≡ false
+first_bound place held slot.Gap may = absurd cc
+first_bound place held (slot.Mark code) may = absurd cc
+first_bound place held (slot.Name n) may = name_bound n place
+first_bound place held (slot.Register letter) may = refl
+first_bound place held slot.Number may = refl
+first_bound place held slot.Index may = index_bound place held.number
+first_bound place held slot.Condition may = refl
+
+first_free : (b : Before) (place : ℕ) (held : Held) (s : Slot) → may_follow b (behind s) ≡ true →
+    cond (is_blank b) (is_free (first_token place held s)) false ≡ false
+first_free before.name place held s may = refl
+first_free before.mark place held s may = refl
+first_free before.blank place held s may = first_bound place held s may
+
+slot_apart : (b : Before) (t : Lexeme) (place : ℕ) (held : Held) (s : Slot) → Stands b t place → may_follow b (behind s) ≡ true →
+    is_apart t (first_token place held s) ≡ is_blank b
+slot_apart b t place held s stands may =
+    apart_is b t (first_token place held s) (subst (Stands b t) (first_start place held s) stands)
+    (first_free b place held s may)
+
+free_anyhow : (b : Bool) → cond b true true ≡ true
+free_anyhow true = refl
+free_anyhow false = refl
+
+stands_behind_mark : (place : ℕ) (held : Held) (code : ℕ) → is_printed_mark code ≡ true →
+    Stands before.mark (token Mark (code ∷ []) place) (place + length (slot_text held (slot.Mark code)))
+unfolding slot_text
+stands_behind_mark place held code is =
+    mark_cases (λ c. Stands before.mark (token Mark (c ∷ []) place) (place + length (slot_text held (slot.Mark c))))
+    (ap (λ b. cond b true false) (touching (place + 1))) (free_anyhow (nat_le (place + 2) (place + 1)))
+    (free_anyhow (nat_le (place + 1) (place + 1))) (free_anyhow (nat_le (place + 1) (place + 1)))
+    (free_anyhow (nat_le (place + 1) (place + 1))) code is
+
+stands_behind_hash : (place : ℕ) (o : Option ℤ) → IsSmall o →
+    Stands before.name (number_last (place + 1) o) (place + suc (length (number_text o)))
+stands_behind_hash place None small = absurd small
+stands_behind_hash place (Some (pos n)) small = (refl, omega arith)
+stands_behind_hash place (Some (negsuc n)) small = (refl, omega arith)
+
+stands_behind_index : (place : ℕ) (o : Option ℤ) → IsIndex o →
+    Stands before.name (number_last place o) (place + length (number_text o))
+stands_behind_index place None index = absurd index
+stands_behind_index place (Some (pos n)) index = (refl, refl)
+stands_behind_index place (Some (negsuc n)) index = absurd index
+
+stands_behind : (place : ℕ) (held : Held) (s : Slot) → Fits held s → has_token s ≡ true →
+    Stands (behind s) (last_token place held s) (place + length (slot_text held s))
+unfolding slot_text
+stands_behind place held slot.Gap fit has = absurd cc
+stands_behind place held (slot.Mark code) fit has = stands_behind_mark place held code fit
+stands_behind place held (slot.Name n) fit has = (name_bound n place, refl)
+stands_behind place held (slot.Register letter) fit has = (refl, refl)
+stands_behind place held slot.Number fit has = stands_behind_hash place held.number fit
+stands_behind place held slot.Index fit has = stands_behind_index place held.number fit
+stands_behind place held slot.Condition fit has = (refl, refl)
+
+-- a word or a number, with a blank behind it
+stands_apart : (t : Lexeme) (place : ℕ) → Stands before.name t place → Stands before.blank t (place + 1)
+stands_apart t place s =
+    let later : end_of t < place + 1 = omega (arith, s.1) in
+    (s.0, past (place + 1) (end_of t) later)
+  where
+    past : (a b : ℕ) → b < a → nat_le a b ≡ false
+    past a b h = grind (arith, nat_tests)
+
+-- ---- all slots
+
+-- items behind what stands before them
+abbrev led : Before → List Item → List Item
+led before.name items = items
+led before.mark items = items
+led before.blank items = blank ∷ items
+
+blank_led : (b : Before) (item : Item) (items : List Item) → behind_blank (is_blank b) item ++ items ≡ led b (item ∷ items)
+blank_led before.name item items = refl
+blank_led before.mark item items = refl
+blank_led before.blank item items = refl
+
+token_given : (b : Before) (t : Lexeme) (place : ℕ) (held : Held) (s : Slot) (tokens : List Lexeme) (items : List Item) →
+    Stands b t place → may_follow b (behind s) ≡ true →
+    Fits held s → has_token s ≡ true → items_from (last_token place held s) 0 tokens ≡ led (behind s) items →
+    led (behind s) items ≡ items →
+    items_from t 0 (slot_tokens place held s ++ tokens) ≡ led b (slot_item held s ∷ items)
+token_given b t place held s tokens items stands may fit has rest bare =
+    slot_given t place held s tokens fit has
+    ∙ (ap (λ apart. behind_blank apart (slot_item held s) ++ items_from (last_token place held s) 0 tokens)
+    (slot_apart b t place held s stands may)
+    ∙ (ap (λ more. behind_blank (is_blank b) (slot_item held s) ++ more) (rest ∙ bare) ∙ blank_led b (slot_item held s) items))
+
+-- one more slot
+slot_step : (b : Before) (t : Lexeme) (place : ℕ) (held : Held) (s : Slot) (ps : List Piece) → Stands b t place →
+    may_follow b (behind s) ≡ true → Fits held s →
+    ((u : Lexeme) (next : ℕ) → Stands (behind s) u next → items_from u 0 (pieces_tokens next ps) ≡ led (behind s) (pieces_items ps)) →
+    items_from t 0 (slot_tokens place held s ++ pieces_tokens (place + length (slot_text held s)) ps) ≡ led b (slot_item held s ∷ pieces_items ps)
+unfolding slot_text slot_item
+slot_step before.name t place held slot.Gap ps stands may fit more = more t (place + 1) (stands_apart t place stands)
+slot_step before.mark t place held slot.Gap ps stands may fit more = absurd cc
+slot_step before.blank t place held slot.Gap ps stands may fit more = absurd cc
+slot_step b t place held (slot.Mark code) ps stands may fit more =
+    token_given b t place held (slot.Mark code) _ (pieces_items ps) stands may fit refl
+    (more _ _ (stands_behind place held (slot.Mark code) fit refl)) refl
+slot_step b t place held (slot.Name n) ps stands may fit more =
+    token_given b t place held (slot.Name n) _ (pieces_items ps) stands may fit refl
+    (more _ _ (stands_behind place held (slot.Name n) fit refl)) refl
+slot_step b t place held (slot.Register letter) ps stands may fit more =
+    token_given b t place held (slot.Register letter) _ (pieces_items ps) stands may fit refl
+    (more _ _ (stands_behind place held (slot.Register letter) fit refl)) refl
+slot_step b t place held slot.Number ps stands may fit more =
+    token_given b t place held slot.Number _ (pieces_items ps) stands may fit refl
+    (more _ _ (stands_behind place held slot.Number fit refl)) refl
+slot_step b t place held slot.Index ps stands may fit more =
+    token_given b t place held slot.Index _ (pieces_items ps) stands may fit refl
+    (more _ _ (stands_behind place held slot.Index fit refl)) refl
+slot_step b t place held slot.Condition ps stands may fit more =
+    token_given b t place held slot.Condition _ (pieces_items ps) stands may fit refl
+    (more _ _ (stands_behind place held slot.Condition fit refl)) refl
+
+-- pieces behind a token give their items
+pieces_given : (b : Before) (t : Lexeme) (place : ℕ) (ps : List Piece) → Stands b t place → Good b ps →
+    items_from t 0 (pieces_tokens place ps) ≡ led b (pieces_items ps)
+unfolding items_from
+pieces_given before.name t place [] stands good = refl
+pieces_given before.mark t place [] stands good = refl
+pieces_given before.blank t place [] stands good = let none : false ≡ true = good.flow in absurd cc
+pieces_given b t place (p ∷ ps) stands good =
+    let parts = both (may_follow b (behind p.slot)) (flows (behind p.slot) ps) good.flow in
+    slot_step b t place p.held p.slot ps stands parts.0 good.fit.0
+    (λ u next s. pieces_given (behind p.slot) u next ps s (record { flow = parts.1; fit = good.fit.1 }))
+
+-- pieces directly behind a word give their items
+pub word_pieces : (w : List ℕ) (place : ℕ) (ps : List Piece) → Good before.name ps →
+    items_from (token Word w place) 0 (pieces_tokens (place + length w) ps) ≡ pieces_items ps
+word_pieces w place ps good = pieces_given before.name (token Word w place) (place + length w) ps (refl, refl) good

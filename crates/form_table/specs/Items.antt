@@ -1,0 +1,123 @@
+-- The items of an instruction's spelling: what its tokens are, with the blanks that count.
+use Rattle.std.specs.Prelude.{ℕ, ℤ, pos, ◌-ℤ◌, ◌+◌, ◌-◌, ◌==◌, ◌||◌, Bool, true, false, not, zero, suc, nat_le, List, [], ◌∷◌, ◌++◌, length, slice_index, Option, None, Some, if◌then◌else◌}
+use Rattle.sl_model.specs.declared.text.TokenKind.{TokenKind}
+use Rattle.sl_model.specs.declared.text.TokenKind.TheVariants as kind
+use Rattle.sl_model.specs.Token.{Lexeme}
+use Rattle.form_table.specs.Chain.{◌>>=◌}
+use Rattle.form_table.specs.Numerals.{number_value}
+
+-- An item: a blank that counts, a mark by its code, a word, or a number with its sign.
+pub data Item : Type 0 where
+  blank : Item
+  mark : ℕ → Item
+  word : List ℕ → Item
+  numeral : ℤ → Item
+
+abbrev pub is_word : TokenKind → Bool
+is_word kind.Word = true
+is_word kind.Number = false
+is_word kind.Mark = false
+is_word kind.Comment = false
+
+abbrev pub is_number : TokenKind → Bool
+is_number kind.Word = false
+is_number kind.Number = true
+is_number kind.Mark = false
+is_number kind.Comment = false
+
+abbrev pub is_mark : TokenKind → Bool
+is_mark kind.Word = false
+is_mark kind.Number = false
+is_mark kind.Mark = true
+is_mark kind.Comment = false
+
+-- the code of a mark
+abbrev pub code_of : Lexeme → ℕ
+code_of token = slice_index token.text 0
+
+-- Is a token this mark?
+abbrev pub marks : ℕ → Lexeme → Bool
+marks code token = if is_mark token.kind then code_of token == code else false
+
+-- Does a token stand directly behind another?
+abbrev pub touches : Lexeme → Lexeme → Bool
+touches before token = nat_le token.start (before.start + length before.text)
+
+-- Is a token one of `,`, `[`, `]` and `!`, beside which blanks are free?
+abbrev pub is_free : Lexeme → Bool
+is_free token = if is_mark token.kind then (code_of token == 44 || code_of token == 91) || (code_of token == 93 || code_of token == 33) else false
+
+-- Does a blank that counts stand between two tokens?
+abbrev pub is_apart : Lexeme → Lexeme → Bool
+is_apart before token = if touches before token then false else (if is_free before then false else not (is_free token))
+
+-- a number with the tokens before it that belong to it: how many tokens they are, its sign and its value
+pub record Found : Type 0 where
+  pub count : ℕ
+  pub negative : Bool
+  pub value : ℕ
+
+-- the tokens behind one, if they stand directly behind it
+abbrev pub attached : Lexeme → List Lexeme → Option (List Lexeme)
+attached before [] = None
+attached before (token ∷ tokens) = if touches before token then Some (token ∷ tokens) else None
+
+-- a number that tokens begin with, without sign
+unfoldable pub plain_number : List Lexeme → Option Found
+plain_number [] = None
+plain_number (token ∷ tokens) = if is_number token.kind then (do
+  value ← number_value token.text
+  Some (record { count = 1; negative = false; value = value })) else None
+
+-- one with `-` before it, if negative
+unfoldable pub signed_number : List Lexeme → Option Found
+signed_number [] = None
+signed_number (token ∷ tokens) = if marks 45 token then (do
+  behind ← attached token tokens
+  found ← plain_number behind
+  Some (record { count = 2; negative = true; value = found.value })) else plain_number (token ∷ tokens)
+
+-- one that may have `#` before it
+unfoldable pub found_number : List Lexeme → Option Found
+found_number [] = None
+found_number (token ∷ tokens) = if marks 35 token then (do
+  behind ← attached token tokens
+  found ← signed_number behind
+  Some (record { count = found.count + 1; negative = found.negative; value = found.value })) else signed_number (token ∷ tokens)
+
+abbrev pub number_of : Found → ℤ
+number_of found = if found.negative then pos 0 -ℤ pos found.value else pos found.value
+
+-- a token that begins no number
+abbrev pub token_item : Lexeme → Item
+token_item token = if is_word token.kind then word token.text else (if is_number token.kind then word token.text else mark (code_of token))
+
+-- the item that tokens begin with, and how many tokens it is
+abbrev pub item_or : Option Found → Lexeme → Item × ℕ
+item_or None token = (token_item token, 1)
+item_or (Some found) token = (numeral (number_of found), found.count)
+
+unfoldable pub first_item : List Lexeme → Item × ℕ
+first_item [] = (blank, 1)
+first_item (token ∷ tokens) = item_or (found_number (token ∷ tokens)) token
+
+-- an item with the blank before it, if there is one that counts
+abbrev pub behind_blank : Bool → Item → List Item
+behind_blank true item = blank ∷ item ∷ []
+behind_blank false item = item ∷ []
+
+-- what the first of some tokens adds to the items, where so many tokens belong to the item before
+abbrev pub items_at : Lexeme → ℕ → List Lexeme → List Item
+items_at before taken [] = []
+items_at before (suc taken) (token ∷ tokens) = []
+items_at before zero (token ∷ tokens) = behind_blank (is_apart before token) (first_item (token ∷ tokens)).0
+
+-- how many tokens behind it belong to the same item
+abbrev pub taken_behind : ℕ → List Lexeme → ℕ
+taken_behind (suc taken) tokens = taken
+taken_behind zero tokens = (first_item tokens).1 - 1
+
+-- the items of the tokens behind one, of which so many belong to the item before
+unfoldable pub items_from : Lexeme → ℕ → List Lexeme → List Item
+items_from before taken [] = []
+items_from before taken (token ∷ tokens) = items_at before taken (token ∷ tokens) ++ items_from token (taken_behind taken (token ∷ tokens)) tokens

@@ -1,0 +1,11 @@
+pub mod Chain
+pub mod Rows
+pub mod Numerals
+pub mod Items
+pub mod ItemViews
+pub mod Spells
+pub mod SpellViews
+pub mod Reads
+pub mod Printed
+pub mod Tables
+pub mod TableRows

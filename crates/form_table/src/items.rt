@@ -1,0 +1,246 @@
+//! The items of an instruction's spelling.
+ghost use Rattle.std.specs.Prelude.{◌≡◌, ◌^◌, ◌≤◌, ◌++◌, IfSome, IfOk, OnOk, MatchOption, map};
+ghost use Rattle.form_table.specs.Items as spec;
+ghost use Rattle.form_table.specs.ItemViews.{lexemes, item_value, found_value, Finds};
+ghost use Rattle.sl_text.specs.Tokens.{token_value};
+
+use crate::numerals::number_value;
+use sl_base::NoMemory;
+use sl_text::{Token, TokenKind};
+use std::alloc::Global;
+
+/// An item of an instruction's spelling.
+#[derive(Clone, Copy, Debug, PartialEq, Eq)]
+pub enum Item<'a> {
+    /// A blank that counts.
+    Gap,
+    /// A mark, by its code.
+    Mark(u8),
+    /// A word, or a number's text that is no number.
+    Word(&'a str),
+    /// A number with its sign, and 2^32 where it is greater.
+    Number(i64),
+}
+
+// A number with the tokens before it that belong to it.
+#[derive(Clone, Copy)]
+struct Found {
+    // How many tokens they are.
+    count: usize,
+    negative: bool,
+    value: u64,
+}
+
+// The code of a mark.
+fn code_of(token: &Token<'_>) -> u8
+    ensures { result ≡ spec.code_of (token_value token.now) }
+{
+    let bytes = token.text.as_bytes();
+    if bytes.is_empty() {
+        return 0;
+    }
+    bytes[0]
+}
+
+// Whether a token is this mark.
+pub(crate) fn is_mark(code: u8, token: &Token<'_>) -> bool
+    ensures { result ≡ spec.marks code (token_value token.now) }
+{
+    match token.kind {
+        TokenKind::Mark => code_of(token) == code,
+        _ => false,
+    }
+}
+
+// Whether a token stands directly behind another.
+pub(crate) fn is_touching(before: &Token<'_>, token: &Token<'_>) -> bool
+    ensures { result ≡ spec.touches (token_value before.now) (token_value token.now) }
+{
+    token.start as usize <= before.start as usize + before.text.len()
+}
+
+// Whether blanks are free beside a token.
+fn is_free(token: &Token<'_>) -> bool
+    ensures { result ≡ spec.is_free (token_value token.now) }
+{
+    match token.kind {
+        TokenKind::Mark => {
+            let code = code_of(token);
+            (code == b',' || code == b'[') || (code == b']' || code == b'!')
+        }
+        _ => false,
+    }
+}
+
+// Whether a blank that counts stands between two tokens.
+fn is_apart(before: &Token<'_>, token: &Token<'_>) -> bool
+    ensures { result ≡ spec.is_apart (token_value before.now) (token_value token.now) }
+{
+    if is_touching(before, token) {
+        return false;
+    }
+    if is_free(before) {
+        return false;
+    }
+    !is_free(token)
+}
+
+// Whether the first of some tokens stands directly behind a token.
+fn is_attached(before: &Token<'_>, tokens: &[Token<'_>]) -> Option<()>
+    ensures { MatchOption result (spec.attached (token_value before.now) (lexemes tokens.now) ≡ None) (λ u. spec.attached (token_value before.now) (lexemes tokens.now) ≡ Some (lexemes tokens.now)) }
+{
+    let (token, _) = tokens.split_first()?;
+    if is_touching(before, token) {
+        return Some(());
+    }
+    None
+}
+
+// A number without sign that tokens begin with.
+#[tactic(auto, unfolding(crate::specs::Items::plain_number))]
+fn plain_number(tokens: &[Token<'_>]) -> Option<Found>
+    ensures value { Finds result (spec.plain_number (lexemes tokens.now)) }
+    ensures small { IfSome result (λ f. (f.value ≤ 2 ^ 32) × (1 ≤ f.count) × (f.count ≤ 1)) }
+{
+    let (token, _) = tokens.split_first()?;
+    if token.kind != TokenKind::Number {
+        return None;
+    }
+    let value = number_value(token.text.as_bytes())?;
+    Some(Found {
+        count: 1,
+        negative: false,
+        value,
+    })
+}
+
+// A number with its sign.
+#[tactic(auto, unfolding(crate::specs::Items::signed_number))]
+fn signed_number(tokens: &[Token<'_>]) -> Option<Found>
+    ensures value { Finds result (spec.signed_number (lexemes tokens.now)) }
+    ensures small { IfSome result (λ f. (f.value ≤ 2 ^ 32) × (1 ≤ f.count) × (f.count ≤ 2)) }
+{
+    let (token, rest) = tokens.split_first()?;
+    if !is_mark(b'-', token) {
+        return plain_number(tokens);
+    }
+    is_attached(token, rest)?;
+    let found = plain_number(rest)?;
+    Some(Found {
+        count: 2,
+        negative: true,
+        value: found.value,
+    })
+}
+
+// A number that may have `#` before it.
+#[tactic(auto, unfolding(crate::specs::Items::found_number))]
+fn found_number(tokens: &[Token<'_>]) -> Option<Found>
+    ensures value { Finds result (spec.found_number (lexemes tokens.now)) }
+    ensures small { IfSome result (λ f. (f.value ≤ 2 ^ 32) × (1 ≤ f.count) × (f.count ≤ 3)) }
+{
+    let (token, rest) = tokens.split_first()?;
+    if !is_mark(b'#', token) {
+        return signed_number(tokens);
+    }
+    is_attached(token, rest)?;
+    let found = signed_number(rest)?;
+    Some(Found {
+        count: found.count + 1,
+        negative: found.negative,
+        value: found.value,
+    })
+}
+
+// The number that was found.
+fn number_of(found: Found) -> i64
+    requires { found.value ≤ 2 ^ 32 }
+    ensures { result ≡ spec.number_of (found_value found) }
+{
+    let value = found.value as i64;
+    if found.negative {
+        return 0 - value;
+    }
+    value
+}
+
+// The item of a token that begins no number.
+fn token_item<'a>(token: &Token<'a>) -> Item<'a>
+    ensures { item_value result ≡ spec.token_item (token_value token.now) }
+{
+    match token.kind {
+        TokenKind::Word => Item::Word(token.text),
+        TokenKind::Number => Item::Word(token.text),
+        _ => Item::Mark(code_of(token)),
+    }
+}
+
+// The item that tokens begin with, and how many tokens it is.
+#[tactic(auto, unfolding(crate::specs::Items::first_item))]
+fn first_item<'a>(tokens: &[Token<'a>]) -> (Item<'a>, usize)
+    ensures item { item_value result.0 ≡ (spec.first_item (lexemes tokens.now)).0 }
+    ensures count { result.1 ≡ (spec.first_item (lexemes tokens.now)).1 }
+    ensures some { 1 ≤ result.1 }
+{
+    let Some((token, _)) = tokens.split_first() else {
+        return (Item::Gap, 1);
+    };
+    let Some(found) = found_number(tokens) else {
+        return (token_item(token), 1);
+    };
+    (Item::Number(number_of(found)), found.count)
+}
+
+// Adds an item, with a blank before it where one counts. After `NoMemory` some of it may be there.
+fn push_item<'a>(items: &mut Vec<Item<'a>>, apart: bool, item: Item<'a>) -> Result<(), NoMemory>
+    ensures { OnOk result (map item_value items.new.items ≡ map item_value items.old.items ++ spec.behind_blank apart (item_value item.entry)) }
+{
+    if apart && items.push(Item::Gap).is_err() {
+        return Err(NoMemory);
+    }
+    if items.push(item).is_err() {
+        return Err(NoMemory);
+    }
+    Ok(())
+}
+
+// Adds what the first of some tokens adds to the items, where `taken` tokens belong to the item before; says how many
+// tokens behind it belong to the same item.
+fn push_first<'a>(
+    items: &mut Vec<Item<'a>>,
+    before: &Token<'a>,
+    taken: usize,
+    tokens: &[Token<'a>],
+) -> Result<usize, NoMemory>
+    ensures items { OnOk result (map item_value items.new.items ≡ map item_value items.old.items ++ spec.items_at (token_value before.now) taken (lexemes tokens.now)) }
+    ensures behind { IfOk result (λ left. left ≡ spec.taken_behind taken (lexemes tokens.now)) }
+{
+    if taken > 0 {
+        return Ok(taken - 1);
+    }
+    let (item, count) = first_item(tokens);
+    let Some((token, _)) = tokens.split_first() else {
+        return Ok(count - 1);
+    };
+    push_item(items, is_apart(before, token), item)?;
+    Ok(count - 1)
+}
+
+/// The items of the tokens that stand behind a token of their line. The tokens hold no comments.
+#[tactic(auto, unfolding(crate::specs::Items::items_from))]
+pub fn items<'a>(
+    alloc: Global,
+    first: &Token<'a>,
+    tokens: &[Token<'a>],
+) -> Result<Vec<Item<'a>>, NoMemory>
+    ensures { IfOk result (λ v. map item_value v.items ≡ spec.items_from (token_value first.now) 0 (lexemes tokens.now)) }
+{
+    let mut items = Vec::new(alloc);
+    let mut before = *first;
+    let mut taken = 0;
+    for (place, token) in tokens.iter().enumerate() {
+        taken = push_first(&mut items, &before, taken, &tokens[place..])?;
+        before = *token;
+    }
+    Ok(items)
+}

@@ -1,0 +1,294 @@
+//! Printing an instruction by a table of rows.
+ghost use Rattle.std.specs.Prelude.{◌≡◌, ◌≤◌, ◌+◌, ◌<◌, ◌++◌, ◌∷◌, [], length, slice_index_or, OnOk, OnErr};
+ghost use Rattle.std.specs.Fmt.{decimal};
+ghost use Rattle.form_table.specs.Rows.{row_operands, slots_of};
+ghost use Rattle.form_table.specs.Printed as spec;
+ghost use Rattle.form_table.specs.TableRows.{rows_of};
+
+use crate::reader::{Pick, is_picked};
+use crate::rows::{Letter, Operand, Row, Shape, Slot, slots_of};
+use crate::spells::{CONDITIONS, Held};
+use crate::table::Table;
+use itoa::Buffer;
+use sl_base::NoMemory;
+use sl_isa::{Bank, Instr, Reg};
+
+// Adds a text. After `NoMemory` nothing has changed.
+fn push(out: &mut Vec<u8>, text: &[u8]) -> Result<(), NoMemory>
+    ensures ok { OnOk result (out.new.items ≡ out.old.items ++ text.now) }
+    ensures err { OnErr result (out.new.items ≡ out.old.items) }
+{
+    if out.extend_from_slice(text).is_err() {
+        return Err(NoMemory);
+    }
+    Ok(())
+}
+
+// Adds a letter and a number.
+fn push_numbered(out: &mut Vec<u8>, letter: u8, number: u16) -> Result<(), NoMemory>
+    ensures { OnOk result (out.new.items ≡ out.old.items ++ letter ∷ decimal number) }
+{
+    push(out, &[letter])?;
+    push(out, Buffer::new().format(number).as_bytes())
+}
+
+// Whether a register is the stack pointer.
+fn is_stack(bank: Bank) -> bool
+    ensures { result ≡ spec.is_stack bank }
+{
+    bank == Bank::Stack
+}
+
+// Adds a register that is spelled with a letter.
+#[tactic(auto, unfolding(crate::specs::Printed::register_name))]
+fn push_register(out: &mut Vec<u8>, letter: Letter, r: Reg) -> Result<(), NoMemory>
+    ensures { OnOk result (out.new.items ≡ out.old.items ++ spec.register_name letter r) }
+{
+    match letter {
+        Letter::X => {
+            if is_stack(r.bank) {
+                return push(out, b"sp");
+            }
+            if r.number == 31 {
+                return push(out, b"xzr");
+            }
+            push_numbered(out, b'x', r.number)
+        }
+        Letter::W => {
+            if r.number == 31 {
+                return push(out, b"wzr");
+            }
+            push_numbered(out, b'w', r.number)
+        }
+        Letter::V => push_numbered(out, b'v', r.number),
+        Letter::Q => push_numbered(out, b'q', r.number),
+        Letter::D => push_numbered(out, b'd', r.number),
+        Letter::S => push_numbered(out, b's', r.number),
+        Letter::R => {
+            if is_stack(r.bank) {
+                return push(out, b"sp");
+            }
+            if r.number == 14 {
+                return push(out, b"lr");
+            }
+            push_numbered(out, b'r', r.number)
+        }
+    }
+}
+
+// Adds a number, if there is one.
+fn push_number(out: &mut Vec<u8>, number: Option<i64>) -> Result<(), NoMemory>
+    ensures { OnOk result (out.new.items ≡ out.old.items ++ spec.number_text number) }
+{
+    let Some(n) = number else {
+        return Ok(());
+    };
+    push(out, Buffer::new().format(n).as_bytes())
+}
+
+// The name at a place, and nothing behind the last one.
+fn name_at(names: &[[u8; 2]], place: u64) -> &[u8]
+    ensures { result.now ≡ slice_index_or names.now place [] }
+{
+    let place = place as usize;
+    if names.len() <= place {
+        return b"";
+    }
+    &names[place]
+}
+
+// Adds the name of a condition, if there is one.
+fn push_condition(out: &mut Vec<u8>, number: Option<i64>) -> Result<(), NoMemory>
+    ensures { OnOk result (out.new.items ≡ out.old.items ++ spec.condition_text number) }
+{
+    let Some(n) = number else {
+        return Ok(());
+    };
+    push(out, name_at(&CONDITIONS, n.unsigned_abs()))
+}
+
+// Adds what is printed for a slot.
+#[tactic(auto, unfolding(crate::specs::Printed::slot_text))]
+fn push_slot(out: &mut Vec<u8>, held: Held, slot: Slot) -> Result<(), NoMemory>
+    ensures { OnOk result (out.new.items ≡ out.old.items ++ spec.slot_text held slot) }
+{
+    match slot {
+        Slot::Gap => push(out, b" "),
+        Slot::Mark(code) => {
+            if code == b',' {
+                return push(out, b", ");
+            }
+            push(out, &[code])
+        }
+        Slot::Name(name) => push(out, name.text().as_bytes()),
+        Slot::Register(letter) => {
+            let Some(r) = held.register else {
+                return Ok(());
+            };
+            push_register(out, letter, r)
+        }
+        Slot::Number => {
+            push(out, b"#")?;
+            push_number(out, held.number)
+        }
+        Slot::Index => push_number(out, held.number),
+        Slot::Condition => push_condition(out, held.number),
+    }
+}
+
+// Adds what is printed for slots, one behind the other.
+#[tactic(auto, unfolding(crate::specs::Printed::slots_text))]
+fn push_slots(out: &mut Vec<u8>, held: Held, slots: &[Slot]) -> Result<(), NoMemory>
+    ensures { OnOk result (out.new.items ≡ out.old.items ++ spec.slots_text held slots.now) }
+{
+    let Some((slot, slots)) = slots.split_first() else {
+        return Ok(());
+    };
+    push_slot(out, held, *slot)?;
+    push_slots(out, held, slots)
+}
+
+// Adds what is printed for an operand behind what leads to it.
+fn push_operand(out: &mut Vec<u8>, held: Held, lead: Slot, shape: Shape) -> Result<(), NoMemory>
+    ensures { OnOk result (out.new.items ≡ out.old.items ++ spec.slots_text held (slots_of lead shape)) }
+{
+    let slots = slots_of(lead, shape);
+    push_slots(out, held, &slots.places[..slots.count])
+}
+
+/// Whether an operand of a shape has a register.
+pub fn has_register(shape: Shape) -> bool
+    ensures { result ≡ spec.has_register shape }
+{
+    !matches!(
+        shape,
+        Shape::Nothing | Shape::Number | Shape::Condition | Shape::Shift(_)
+    )
+}
+
+// Whether it has a number.
+fn has_number(shape: Shape) -> bool
+    ensures { result ≡ spec.has_number shape }
+{
+    !matches!(
+        shape,
+        Shape::Nothing | Shape::Register(_) | Shape::Lanes(_) | Shape::Base(_)
+    )
+}
+
+// Whether an operand's register is found among the outputs.
+fn among_outs(operand: &Operand) -> bool
+    ensures { result ≡ spec.among_outs operand.now }
+{
+    if has_register(operand.shape) {
+        return is_picked(Pick::Written, operand.role);
+    }
+    false
+}
+
+// Whether it is found among the inputs.
+fn among_ins(operand: &Operand) -> bool
+    ensures { result ≡ spec.among_ins operand.now }
+{
+    if has_register(operand.shape) {
+        return is_picked(Pick::Read, operand.role);
+    }
+    false
+}
+
+// A register among places.
+fn register_at(places: &[Option<Reg>], place: usize) -> Option<Reg>
+    ensures { result ≡ slice_index_or places.now place None }
+{
+    if places.len() <= place {
+        return None;
+    }
+    places[place]
+}
+
+// The register of an operand, where so many inputs and outputs stand before it.
+fn register_in(instr: &Instr, operand: &Operand, ins: usize, outs: usize) -> Option<Reg>
+    ensures { result ≡ spec.register_in instr.now operand.now ins outs }
+{
+    if among_outs(operand) {
+        return register_at(&instr.outs, outs);
+    }
+    if among_ins(operand) {
+        return register_at(&instr.ins, ins);
+    }
+    None
+}
+
+// The number of an operand, where so many numbers stand before it.
+fn number_in(instr: &Instr, operand: &Operand, numbers: usize) -> Option<i64>
+    ensures { result ≡ spec.number_in instr.now operand.now numbers }
+{
+    if !has_number(operand.shape) {
+        return None;
+    }
+    if instr.imms.len() <= numbers {
+        return Some(0);
+    }
+    Some(instr.imms[numbers])
+}
+
+// What an operand holds, where so many inputs, outputs and numbers stand before it.
+#[tactic(auto, unfolding(crate::specs::Printed::held_in))]
+fn held_in(instr: &Instr, operand: &Operand, ins: usize, outs: usize, numbers: usize) -> Held
+    ensures { result ≡ spec.held_in instr.now operand.now ins outs numbers }
+{
+    Held {
+        register: register_in(instr, operand, ins, outs),
+        number: number_in(instr, operand, numbers),
+    }
+}
+
+// Adds what is printed for operands, where so many inputs, outputs and numbers stand before them.
+#[tactic(auto, unfolding(crate::specs::Printed::helds_in, crate::specs::Printed::operands_text))]
+fn push_operands(
+    out: &mut Vec<u8>,
+    instr: &Instr,
+    lead: Slot,
+    operands: &[Operand],
+    ins: usize,
+    outs: usize,
+    numbers: usize,
+) -> Result<(), NoMemory>
+    requires ins { ins + length operands.now < 256 }
+    requires outs { outs + length operands.now < 256 }
+    requires numbers { numbers + length operands.now < 256 }
+    ensures { OnOk result (out.new.items ≡ out.old.items ++ spec.operands_text lead operands.now (spec.helds_in instr.now operands.now ins outs numbers)) }
+{
+    let Some((operand, operands)) = operands.split_first() else {
+        return Ok(());
+    };
+    let held = held_in(instr, operand, ins, outs, numbers);
+    push_operand(out, held, lead, operand.shape)?;
+    let ins = ins + usize::from(among_ins(operand));
+    let outs = outs + usize::from(among_outs(operand));
+    let numbers = numbers + usize::from(has_number(operand.shape));
+    push_operands(out, instr, Slot::Mark(b','), operands, ins, outs, numbers)
+}
+
+// Adds what is printed for an instruction of a row.
+#[tactic(auto, unfolding(crate::specs::Printed::row_text))]
+fn push_row(out: &mut Vec<u8>, row: &Row, instr: &Instr) -> Result<(), NoMemory>
+    ensures { OnOk result (out.new.items ≡ out.old.items ++ spec.row_text row.now (spec.helds_in instr.now (row_operands row.now) 0 0 0)) }
+{
+    push(out, row.mnemonic())?;
+    push_operands(out, instr, Slot::Gap, &row.operands(), 0, 0, 0)
+}
+
+/// Adds an instruction's one printed spelling to `out`. After `NoMemory` nothing has changed.
+#[tactic(auto, unfolding(crate::specs::Printed::printed))]
+pub fn print_form(table: &Table<'_>, instr: &Instr, out: &mut Vec<u8>) -> Result<(), NoMemory>
+    ensures ok { OnOk result (out.new.items ≡ out.old.items ++ spec.printed (rows_of table.now) instr.now) }
+    ensures err { OnErr result (out.new.items ≡ out.old.items) }
+{
+    let Some(row) = table.row(instr.form) else {
+        return Ok(());
+    };
+    let mut text = Vec::new(*out.allocator());
+    push_row(&mut text, row, instr)?;
+    push(out, &text)
+}

@@ -1,0 +1,15 @@
+//! What vector instructions compute, on registers of 128 bits as numbers.
+#![tactic(auto)]
+
+pub use vector::vector_value;
+
+mod cut;
+mod lanewise;
+pub mod laws;
+mod long;
+mod permute;
+mod shifts;
+mod signed;
+#[cfg(test)]
+mod tests;
+mod vector;

@@ -1,0 +1,33 @@
+-- The names of symbolic registers: pairs of a bank and a name, each numbered by its place.
+use Rattle.std.specs.Prelude.{ℕ, ◌+◌, ◌==◌, Bool, true, false, List, [], ◌∷◌, ◌++◌, if◌then◌else◌}
+use Rattle.std.specs.Str.{bytes_eq}
+use Rattle.sl_model.specs.declared.register.Bank.{Bank}
+use Rattle.sl_model.specs.Register.{bank_number}
+
+-- a bank and a name
+abbrev pub Pair : Type 0
+Pair = Bank × List ℕ
+
+abbrev pub is_pair : Bank → List ℕ → Pair → Bool
+is_pair bank name pair = if bank_number pair.0 == bank_number bank then bytes_eq pair.1 name else false
+
+-- the place of a pair, counted from a first number on, and the number behind the last where it is none of them
+unfoldable pub place_from : ℕ → Bank → List ℕ → List Pair → ℕ
+place_from first bank name [] = first
+place_from first bank name (pair ∷ pairs) = if is_pair bank name pair then first else place_from (first + 1) bank name pairs
+
+-- Is a pair among others?
+unfoldable pub has_pair : Bank → List ℕ → List Pair → Bool
+has_pair bank name [] = false
+has_pair bank name (pair ∷ pairs) = if is_pair bank name pair then true else has_pair bank name pairs
+
+-- the number of a pair
+abbrev pub number_of : Bank → List ℕ → List Pair → ℕ
+number_of bank name pairs = place_from 0 bank name pairs
+
+-- the pairs with one more, if it isn't among them
+unfoldable pub with_pair : Bank → List ℕ → List Pair → List Pair
+with_pair bank name pairs = if has_pair bank name pairs then pairs else pairs ++ (bank, name) ∷ []
+
+abbrev pub name_of : Pair → List ℕ
+name_of pair = pair.1

@@ -1,0 +1,6 @@
+-- The names of files, as the definitions see them.
+use Rattle.slothy_cli.specs.declared.report.Names as code
+use Rattle.slothy_cli.specs.Messages.{Names}
+
+abbrev pub names_of : code.Names → Names
+names_of names = record { input = names.input.now; state = names.state.now }

@@ -1,0 +1,91 @@
+//! The region of a file: its items, or why it has none.
+ghost use Rattle.std.specs.Prelude.{◌≡◌, ◌≤◌, ◌<◌, ◌^◌, length, IfOk};
+ghost use Rattle.asm_reader.specs.RegionViews.{region_of};
+ghost use Rattle.slothy_cli.specs.Shown.{Answers, Gives};
+ghost use Rattle.slothy_cli.specs.Outcome.{text_from, stop_at, region_from, file_region};
+
+use crate::stop::{Failure, File, Quantity, Reason, Stop};
+use asm_reader::{ReadRefusal, Reason as RegionReason, Refusal, Region, Wants, read_region};
+use sl_isa::Arch;
+use sl_text::{CutRefusal, text_of};
+use std::alloc::Global;
+
+/// The label of the line that a region stands below.
+const START: &str = "slothy_start";
+
+/// The label of the line that a region stands above.
+const END: &str = "slothy_end";
+
+/// The bytes of a file as a text.
+pub fn text_from(file: File, bytes: &[u8]) -> Result<&str, Stop>
+    requires { length bytes.now < 2 ^ 31 }
+    ensures answer { Answers (λ text. text.now) result (text_from file bytes.now) }
+    ensures same { IfOk result (λ text. text.now ≡ bytes.now) }
+{
+    match text_of(bytes) {
+        Ok(text) => Ok(text),
+        Err(fault) => Err(Stop::Refused {
+            file,
+            line: fault.line,
+            reason: Reason::NotText,
+        }),
+    }
+}
+
+// Why there is no text, where a region is refused.
+fn stop_of(refusal: Refusal) -> Stop
+    ensures { result ≡ stop_at refusal.line refusal.reason }
+{
+    let line = refusal.line;
+    let reason = match refusal.reason {
+        RegionReason::Cut(CutRefusal::NoStart) => Reason::NoStart,
+        RegionReason::Cut(CutRefusal::NoEnd) => Reason::NoEnd,
+        RegionReason::Cut(CutRefusal::Twice { .. }) => Reason::Twice,
+        RegionReason::Form(form) => Reason::Form(form),
+        RegionReason::NotYet => Reason::NotYet,
+        RegionReason::TooMany(limit) => {
+            return Stop::TooLarge {
+                file: File::Input,
+                line,
+                quantity: Quantity::Items,
+                limit: limit as u64,
+            };
+        }
+    };
+    Stop::Refused {
+        file: File::Input,
+        line,
+        reason,
+    }
+}
+
+// The region of a text.
+fn region_from<'a, A: Arch>(
+    arch: &A,
+    alloc: Global,
+    wants: Wants,
+    text: &'a str,
+) -> Result<Region<'a>, Failure>
+    requires { length text.now < 2 ^ 31 }
+    ensures { Gives region_of result (region_from (record { isa = A.isa; reads = A.reads; printed = A.printed; step_of = A.step_of }) wants text.now) }
+{
+    match read_region(arch, alloc, text, START, END, wants) {
+        Ok(region) => Ok(region),
+        Err(ReadRefusal::Refused(refusal)) => Err(Failure::Stopped(stop_of(refusal))),
+        Err(ReadRefusal::NoMemory) => Err(Failure::NoMemory),
+    }
+}
+
+/// The region of a file with these bytes, of which there are at most 1048576.
+pub fn file_region<'a, A: Arch>(
+    arch: &A,
+    alloc: Global,
+    wants: Wants,
+    bytes: &'a [u8],
+) -> Result<Region<'a>, Failure>
+    requires { length bytes.now ≤ 1048576 }
+    ensures { Gives region_of result (file_region (record { isa = A.isa; reads = A.reads; printed = A.printed; step_of = A.step_of }) wants bytes.now) }
+{
+    let text = text_from(File::Input, bytes)?;
+    region_from(arch, alloc, wants, text)
+}

@@ -1,0 +1,49 @@
+//! The problem of a region's items on the core `one:L`.
+ghost use Rattle.std.specs.Prelude.{◌≡◌, ◌≤◌, length, IfOk};
+ghost use Rattle.legal_space.specs.Timed.{HasKnownSources};
+ghost use Rattle.slothy_cli.specs.CostText.{plain_row, plain_costs, region_problem};
+
+use issue_cost::{CostRow, Costs, NoMemory};
+use legal_space::{Problem, written};
+use sl_model::instruction::Instr;
+use std::alloc::{AllocError, Global};
+
+/// How many items the core issues in a cycle.
+const WIDTH: u8 = 1;
+
+/// The row of every item: the unit is kept for one cycle, and a result is ready after `latency` cycles.
+fn plain_row(latency: u8) -> CostRow
+    ensures { result ≡ plain_row latency }
+{
+    CostRow {
+        class: 0,
+        units: 1,
+        busy: 1,
+        latency,
+        writeback: latency,
+        back: None,
+    }
+}
+
+/// The costs of so many items on the core `one:latency`.
+fn plain_costs(alloc: Global, latency: u8, items: usize) -> Result<Costs, NoMemory>
+    requires { 1 ≤ latency }
+    ensures { IfOk result (λ costs. costs ≡ plain_costs latency items) }
+{
+    let rows = vec![in alloc; plain_row(latency); items]?;
+    Costs::new(alloc, WIDTH, &rows, &[])
+}
+
+/// The problem of items, at most 64, on the core `one:latency`: all registers that they write are live-out, and none is
+/// free.
+pub fn region_problem(alloc: Global, items: &[Instr], latency: u8) -> Result<Problem, NoMemory>
+    requires least { 1 ≤ latency }
+    requires few { length items.now ≤ 64 }
+    ensures problem { IfOk result (λ problem. problem ≡ region_problem latency items.now) }
+    ensures sources { IfOk result (λ problem. HasKnownSources problem) }
+{
+    let live = written(alloc, items)?;
+    let costs = plain_costs(alloc, latency, items.len())?;
+    let items = Vec::from_slice(alloc, items).map_err(AllocError::from)?;
+    Problem::straight(alloc, items, &live, &[], costs)
+}

@@ -1,0 +1,17 @@
+//! State files: a state as a text, read and printed.
+#![tactic(auto)]
+
+mod digits;
+mod names;
+mod printer;
+mod reader;
+mod running;
+#[cfg(test)]
+mod tests;
+
+pub use machine_sem::State;
+pub use printer::print_state;
+pub use reader::{StateErr, read_state};
+pub use running::run_on_state;
+pub use sl_base::NoMemory;
+pub use sl_isa::ArchName;
