@@ -1,4 +1,5 @@
--- AArch64 as an instruction set: how its instructions are read and printed, and which of them make a counter's steps.
+-- AArch64 as an instruction set: how its instructions are read and printed, and which of them make a counter's steps. Source:
+-- this project's own format, over the forms of the document.
 use Rattle.std.specs.Prelude.{ℕ, pos, false, [], ◌∷◌, Option, None, Some}
 use Rattle.sl_model.specs.declared.register.Reg.{Reg}
 use Rattle.sl_model.specs.declared.instruction.Instr.{Instr}

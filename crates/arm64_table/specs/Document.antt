@@ -77,10 +77,11 @@ numeral shape range = record { shape = shape; role = In; class = no_register; ra
 abbrev pub lane_of : Name → Role → RegSet → ℕ → Operand
 lane_of name role class most = record { shape = shape.Lane name; role = role; class = class; range = range 0 most 1 }
 
--- a row: its mnemonic, its operands, whether it reads and sets the flags, its class and its meaning
+-- the operand at a place, and none behind the last one
 abbrev pub at : List Operand → ℕ → Operand
 at operands k = slice_index_or operands k none
 
+-- a row: its mnemonic, its operands, whether it reads and sets the flags, its class and its meaning
 abbrev pub row : List ℕ → List Operand → Bool → Bool → ℕ → Meaning → Row
 row mnemonic operands reads sets class meaning = record {
   mnemonic = padded_values 8 mnemonic;

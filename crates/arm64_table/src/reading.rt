@@ -13,7 +13,7 @@ use sl_isa::{FormErr, Instr};
 use sl_text::Token;
 use std::alloc::Global;
 
-/// The instruction that the tokens of a line spell, without line, tag and marks; the tokens hold no comments. Where they
+/// The instruction that the tokens of a line spell, without line and tag, and neither early nor late; the tokens hold no comments. Where they
 /// spell none, the answer is the first reason for it.
 pub(crate) fn read_form(alloc: Global, tokens: &[Token<'_>]) -> Result<Instr, FormErr>
     ensures { Answers result (reads document (map token_value tokens.now)) }

@@ -13,7 +13,7 @@ use Rattle.sl_isa.specs.Arch.{is_behind, IsSpelledAt}
 use Rattle.renamer.proofs.OwnTests.{both}
 use Rattle.asm_reader.specs.Printed as reading
 use Rattle.asm_printer.specs.Printed.{off_line, region_line, item_lines}
-use Rattle.asm_printer.specs.ReadBack.{AreRead, IsPrintable, on_lines}
+use Rattle.asm_printer.specs.ReadBack.{AreRead, IsPrintable}
 
 -- what stands in the note of an item, and in that of a region
 abbrev note_of : ℕ → ℕ → ℕ → List ℕ
@@ -119,8 +119,8 @@ length-entries printed (i ∷ items) [] cycles s c = absurd (omega arith)
 length-entries printed (i ∷ items) (choice ∷ schedule) [] s c = absurd (omega arith)
 length-entries printed (i ∷ items) (choice ∷ schedule) (cycle ∷ cycles) s c = ap suc (length-entries printed items schedule cycles (omega arith) (omega arith))
 
-pub entries-on_lines : (n : ℕ) (printed : Instr → List ℕ) (items : List Instr) (schedule : List Choice) (cycles : List ℕ) → length schedule ≡ length items → length cycles ≡ length items → reading.on_lines n (entries printed items schedule cycles) ≡ on_lines n items
-unfolding entries on_lines reading.on_lines
+pub entries-on_lines : (n : ℕ) (printed : Instr → List ℕ) (items : List Instr) (schedule : List Choice) (cycles : List ℕ) → length schedule ≡ length items → length cycles ≡ length items → reading.on_lines n (reading.printed_items (entries printed items schedule cycles)) ≡ reading.on_lines n items
+unfolding entries reading.on_lines
 entries-on_lines n printed [] schedule cycles s c = refl
 entries-on_lines n printed (i ∷ items) [] cycles s c = absurd (omega arith)
 entries-on_lines n printed (i ∷ items) (choice ∷ schedule) [] s c = absurd (omega arith)

@@ -9,7 +9,7 @@ use Rattle.std.proofs.lemmas.Option.{get_or_from_slice_get}
 use Rattle.sl_model.specs.declared.register.Reg.{Reg}
 use Rattle.sl_model.specs.declared.instruction.Instr.{Instr}
 use Rattle.sl_model.specs.declared.schedule.Source.{Source}
-use Rattle.sl_model.specs.declared.schedule.Source.TheVariants.{Entry, Item}
+use Rattle.sl_model.specs.declared.schedule.Source.TheVariants.{Item}
 use Rattle.sl_model.specs.Register.{same_reg}
 use Rattle.sl_model.specs.Source.{operands, outputs, padded, item_at, source_of, list_sources, last_source}
 use Rattle.sl_model.specs.Token.{Lexeme}
@@ -20,8 +20,8 @@ use Rattle.sl_model.specs.Lawful.{IsValid}
 use Rattle.sl_model.specs.Legal.{numbers_below, is_final_in, written, straight_problem}
 use Rattle.sl_isa.specs.declared.reasons.FormReason.{FormReason}
 use Rattle.legal_space.specs.Testable.{AreValid}
-use Rattle.legal_space.specs.Listing.{IsListable, are_outputs_final, is_known_source, are_known_sources}
-use Rattle.legal_space.specs.Timed.{is_known}
+use Rattle.legal_space.specs.Listing.{IsListable, are_outputs_final, are_known_sources}
+use Rattle.legal_space.specs.Timed.{is_known_source}
 use Rattle.legal_space.proofs.Members.{Has, has-filter, has-flat_map, passes, length-numbers}
 use Rattle.legal_space.proofs.StraightLemmas.{straight-known}
 use Rattle.renamer.proofs.OrderState.{same_reg-refl}
@@ -94,18 +94,6 @@ few-operands isa i valid =
     let places : length i.ins ≡ 4 = ap length valid.ins_shape ∙ length-padded 4 (operands i) in
     omega (arith, filter_map-bound i.ins)
 
--- sources are known, by both tests
-known-same : (count : ℕ) (sources : List Source) → list_all (is_known count) sources ≡ true → list_all (is_known_source count) sources ≡ true
-known-same count sources all = same count sources ∙ all
-  where
-    one : (count : ℕ) (s : Source) → is_known_source count s ≡ is_known count s
-    one count (Entry r) = refl
-    one count (Item item place) = refl
-
-    same : (count : ℕ) (sources : List Source) → list_all (is_known_source count) sources ≡ list_all (is_known count) sources
-    same count [] = refl
-    same count (s ∷ sources) = ap (λ b. b && list_all (is_known_source count) sources) (one count s) ∙ ap (λ b. is_known count s && b) (same count sources)
-
 -- there is a source for each operand
 length-sources : (items : List Instr) (p : ℕ) → length (list_sources items p) ≡ length (operands (item_at items p))
 unfolding list_sources
@@ -136,8 +124,7 @@ module _ (isa : Isa) (items : List Instr) (costs : CostTable) (few : length item
       let least : length (list_sources items p) ≤ 4 = omega (arith, length-sources items p, few-operands isa (item_at items p) (valid p within)) in
       both (nat_le (length (list_sources items p)) 4) (list_all (is_known_source (length items)) (list_sources items p))
       (few_sources (length (list_sources items p)) least)
-      (known-same (length items) (list_sources items p)
-      (ap (list_all (is_known (length items))) (sym (straight_sources items [] [] costs p within)) ∙ straight-known items [] [] costs p))
+      (ap (list_all (is_known_source (length items))) (sym (straight_sources items [] [] costs p within)) ∙ straight-known items [] [] costs p)
 
   -- So the problem can be listed.
   pub straight-listable : IsListable isa (straight_problem items (written items) [] costs)

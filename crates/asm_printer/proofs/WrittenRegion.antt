@@ -22,11 +22,11 @@ use Rattle.renamer.specs.WellPosed.{AreValid}
 use Rattle.renamer.proofs.StraightLeaves.{straight-leaves}
 use Rattle.asm_reader.specs.declared.reasons.Wants.{Wants}
 use Rattle.asm_reader.specs.Reading.{region_alone}
-use Rattle.asm_reader.specs.Printed.{IsLineEnd}
+use Rattle.asm_reader.specs.Printed.{IsLineEnd, on_lines}
 use Rattle.asm_reader.specs.Printed as reading
 use Rattle.asm_reader.proofs.PrintedLines.{region_added}
 use Rattle.asm_printer.specs.Printed.{ends_by_both, line_end, item_lines, region_text}
-use Rattle.asm_printer.specs.ReadBack.{AreRead, IsPrintable, on_lines}
+use Rattle.asm_printer.specs.ReadBack.{AreRead, IsPrintable}
 use Rattle.asm_printer.proofs.Entries.{IsReadAgain, head_note, entries, lines-same, head-same, head-inside, all-printed, length-entries, entries-on_lines}
 
 -- On which lines instructions stand changes nothing of what they do.

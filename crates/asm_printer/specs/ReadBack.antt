@@ -1,5 +1,5 @@
 -- How a printed region reads again: the items of a region, and what is asked of reading and printing.
-use Rattle.std.specs.Prelude.{ℕ, Bool, true, not, ◌+◌, ◌<◌, ◌≡◌, List, [], ◌∷◌, length, slice_get, Some, Result, Ok}
+use Rattle.std.specs.Prelude.{ℕ, Bool, true, not, ◌<◌, ◌≡◌, List, [], ◌∷◌, length, slice_get, Some, Result, Ok}
 use Rattle.std.specs.List.{list_all}
 use Rattle.sl_model.specs.declared.register.Reg.{Reg}
 use Rattle.sl_model.specs.declared.instruction.Instr.{Instr}
@@ -33,8 +33,3 @@ pub record IsPrintable (reads : List Lexeme → Result Instr FormReason) (printe
   pub nothing : ReadsWords reads
   pub concrete : (words : List Lexeme) (i : Instr) → reads words ≡ Ok i → list_all is_concrete (outputs i) ≡ true
   pub one_line : (words : List Lexeme) (i : Instr) → reads words ≡ Ok i → list_all is_no_feed (printed i) ≡ true
-
--- instructions as they stand on lines that are numbered from a first one
-unfoldable pub on_lines : ℕ → List Instr → List Instr
-on_lines number [] = []
-on_lines number (i ∷ items) = record i { line = number } ∷ on_lines (number + 1) items

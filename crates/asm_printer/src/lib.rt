@@ -3,5 +3,4 @@
 
 pub use print::written_text;
 
-pub mod pieces;
 mod print;

@@ -9,8 +9,7 @@ ghost use Rattle.sl_text.specs.Cut.{parts_of};
 ghost use Rattle.renamer.specs.WellPosed.{AreValid};
 ghost use Rattle.asm_printer.specs.Printed as spec;
 
-use crate::pieces::{push, push_labelled};
-use sl_base::NoMemory;
+use sl_base::{NoMemory, append, append_labelled};
 use sl_isa::Arch;
 use sl_model::instruction::Instr;
 use sl_model::schedule::Choice;
@@ -39,10 +38,10 @@ fn push_region_line(
     ensures { OnOk result (out.new.items ≡ out.old.items ++ spec.region_line items cycles stalls end.now) }
 {
     let label = b"        // @slothy:region v=1 kind=straight n=";
-    push_labelled(out, label, items)?;
-    push_labelled(out, b" cycles=", cycles)?;
-    push_labelled(out, b" stalls=", stalls)?;
-    push(out, end)
+    append_labelled(out, label, items)?;
+    append_labelled(out, b" cycles=", cycles)?;
+    append_labelled(out, b" stalls=", stalls)?;
+    append(out, end)
 }
 
 // Adds what stands behind an item: its old number, its cycle, its old line, and the end of the line.
@@ -55,10 +54,10 @@ fn push_note(
 ) -> Result<(), NoMemory>
     ensures { OnOk result (out.new.items ≡ out.old.items ++ spec.item_note number cycle line end.now) }
 {
-    push_labelled(out, b" // @slothy:i=", number)?;
-    push_labelled(out, b" u=u c=", cycle)?;
-    push_labelled(out, b" line=", line)?;
-    push(out, end)
+    append_labelled(out, b" // @slothy:i=", number)?;
+    append_labelled(out, b" u=u c=", cycle)?;
+    append_labelled(out, b" line=", line)?;
+    append(out, end)
 }
 
 // Adds the line of an item with its old number and its cycle. It is printed as it was read, which is on no line.
@@ -73,7 +72,7 @@ fn push_item<A: Arch>(
     requires { IsValid A.isa item.now }
     ensures { OnOk result (out.new.items ≡ out.old.items ++ spec.item_line A.printed item.now number cycle end.now) }
 {
-    push(out, b"        ")?;
+    append(out, b"        ")?;
     arch.print_form(&Instr { line: 0, ..*item }, out)?;
     push_note(
         out,
@@ -133,7 +132,7 @@ pub fn written_text<A: Arch>(
 {
     let end = line_end(cut.before);
     let mut text = Vec::new(alloc);
-    push(&mut text, cut.before.as_bytes())?;
+    append(&mut text, cut.before.as_bytes())?;
     push_region_line(
         &mut text,
         schedule.len() as u64,
@@ -142,6 +141,6 @@ pub fn written_text<A: Arch>(
         end,
     )?;
     push_items(arch, &mut text, items, schedule, cycles, end)?;
-    push(&mut text, cut.after.as_bytes())?;
+    append(&mut text, cut.after.as_bytes())?;
     Ok(text)
 }

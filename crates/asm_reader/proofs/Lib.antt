@@ -4,3 +4,4 @@ pub mod Lines
 pub mod Kept
 pub mod PrintedTokens
 pub mod PrintedLines
+pub mod Words

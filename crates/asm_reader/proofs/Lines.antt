@@ -1,16 +1,13 @@
 -- The lines of a text, one by one.
-use Rattle.std.proofs.Common.{◌≡◌, ℕ, ◌+◌, ◌≤◌, Bool, true, false, cond, List, [], ◌∷◌, ◌++◌, length, None, Some, Ok, refl, ap, sym, ◌∙◌, arith, append-nil}
+use Rattle.std.proofs.Common.{◌≡◌, ℕ, ◌+◌, ◌≤◌, Bool, true, false, cond, List, [], ◌∷◌, length, None, Some, Ok, refl, ap, sym, ◌∙◌, arith}
 use Rattle.sl_model.specs.declared.instruction.Instr.{Instr}
 use Rattle.sl_model.specs.declared.text.Comments.{Comments}
 use Rattle.sl_model.specs.Text.{whole_lines, without_end, is_line_end}
-use Rattle.sl_model.specs.Token.{Lexeme, tokens, open_behind}
-use Rattle.sl_text.specs.declared.token.Token.{Token}
-use Rattle.sl_text.specs.declared.token.Tokens.{Tokens}
-use Rattle.sl_text.specs.Tokens.{GivesToken, token_value, tokens_left}
+use Rattle.sl_model.specs.Token.{tokens, open_behind}
 use Rattle.asm_reader.specs.declared.reasons.ReadRefusal.{ReadRefusal}
 use Rattle.asm_reader.specs.declared.reasons.Wants.{Wants}
 use Rattle.asm_reader.specs.Statements.{statements}
-use Rattle.asm_reader.specs.Views.{lexemes, Refuses}
+use Rattle.asm_reader.specs.Views.{Refuses}
 use Rattle.asm_reader.specs.Reading.{◌>>=◌, Reads, with_statements, with_lines, open_after, holds_unbuilt, first_unbuilt}
 use Rattle.asm_reader.proofs.Steps.{refuses_all}
 
@@ -29,49 +26,32 @@ unfolding without_end
 without_end_le [] = omega arith
 without_end_le (c ∷ line) = let h = kept_length (is_line_end (c ∷ line)) c (without_end line) line (without_end_le line) in omega (arith, h)
 
--- ---- the tokens of a line
-
--- one more token that was taken
-pub taken_more : (old new : Tokens) (token : Token) → GivesToken old (Some token) new → (taken longer : List Token) (all : List Lexeme)
-    → longer ≡ taken ++ token ∷ [] → lexemes taken ++ tokens_left old ≡ all → lexemes longer ++ tokens_left new ≡ all
-taken_more old new token gives taken longer all e f =
-    ap (λ ts. lexemes ts ++ tokens_left new) e ∙ split taken ∙ ap (λ ts. lexemes taken ++ ts) (sym gives.tokens) ∙ f
-  where
-    split : (ts : List Token) → lexemes (ts ++ token ∷ []) ++ tokens_left new ≡ lexemes ts ++ token_value token ∷ tokens_left new
-    split [] = refl
-    split (t ∷ ts) = ap (λ rest. token_value t ∷ rest) (split ts)
-
--- all have been taken
-pub taken_all : (old new : Tokens) → GivesToken old None new → (taken : List Token) (all : List Lexeme)
-    → lexemes taken ++ tokens_left old ≡ all → lexemes taken ≡ all
-taken_all old new gives taken all e = sym (append-nil (lexemes taken)) ∙ ap (λ ts. lexemes taken ++ ts) (sym gives.tokens.0) ∙ e
-
 -- ---- block comments over lines
 
-pub open_nowhere : (comments : Comments) (inside : Bool) → open_after comments inside [] ≡ inside
+pub open_nowhere : (comments : Comments) (inside : Bool) (lines : List (ℕ × List ℕ)) → lines ≡ [] → open_after comments inside lines ≡ inside
 unfolding open_after
-open_nowhere comments inside = refl
+open_nowhere comments inside lines e = ap (open_after comments inside) e
 
-pub open_below : (comments : Comments) (inside : Bool) (line : List ℕ) (lines : List (List ℕ))
-    → open_after comments inside (line ∷ lines) ≡ open_after comments (open_behind inside (tokens comments inside (without_end line))) lines
+pub open_below : (comments : Comments) (inside unclosed : Bool) (lines below : List (ℕ × List ℕ)) (number : ℕ) (text : List ℕ) → lines ≡ (number, text) ∷ below
+    → unclosed ≡ open_behind inside (tokens comments inside text) → open_after comments unclosed below ≡ open_after comments inside lines
 unfolding open_after
-open_below comments inside line lines = refl
+open_below comments inside unclosed lines below number text e f = sym (ap (open_after comments inside) e ∙ ap (λ b. open_after comments b below) (sym f))
 
 -- ---- what isn't built yet
 
 -- a line that holds what isn't built yet is the first such line
-pub unbuilt_here : (number : ℕ) (line : List ℕ) (lines : List (List ℕ)) → holds_unbuilt line ≡ true → first_unbuilt number (line ∷ lines) ≡ Some number
+pub unbuilt_here : (lines below : List (ℕ × List ℕ)) (number : ℕ) (text : List ℕ) → lines ≡ (number, text) ∷ below → holds_unbuilt text ≡ true → first_unbuilt lines ≡ Some number
 unfolding first_unbuilt
-unbuilt_here number line lines e = ap (λ b. cond b (Some number) (first_unbuilt (number + 1) lines)) e
+unbuilt_here lines below number text e f = ap first_unbuilt e ∙ ap (λ b. cond b (Some number) (first_unbuilt below)) f
 
 -- below another line the search goes on
-pub unbuilt_below : (number : ℕ) (line : List ℕ) (lines : List (List ℕ)) → holds_unbuilt line ≡ false → first_unbuilt number (line ∷ lines) ≡ first_unbuilt (number + 1) lines
+pub unbuilt_below : (lines below : List (ℕ × List ℕ)) (number : ℕ) (text : List ℕ) → lines ≡ (number, text) ∷ below → holds_unbuilt text ≡ false → first_unbuilt below ≡ first_unbuilt lines
 unfolding first_unbuilt
-unbuilt_below number line lines e = ap (λ b. cond b (Some number) (first_unbuilt (number + 1) lines)) e
+unbuilt_below lines below number text e f = sym (ap first_unbuilt e ∙ ap (λ b. cond b (Some number) (first_unbuilt below)) f)
 
-pub unbuilt_nowhere : (number : ℕ) → first_unbuilt number [] ≡ None
+pub unbuilt_nowhere : (lines : List (ℕ × List ℕ)) → lines ≡ [] → first_unbuilt lines ≡ None
 unfolding first_unbuilt
-unbuilt_nowhere number = refl
+unbuilt_nowhere lines e = ap first_unbuilt e
 
 -- ---- the items of lines
 

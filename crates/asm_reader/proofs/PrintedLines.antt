@@ -10,7 +10,7 @@ use Rattle.asm_reader.specs.declared.reasons.Reason.TheVariants as reason
 use Rattle.asm_reader.specs.declared.reasons.Wants.{Wants}
 use Rattle.asm_reader.specs.Statements.{statements, words_of, has_note}
 use Rattle.asm_reader.specs.Reading.{Reads, refused, writes_again, with_item, read_or_refused, with_words, with_statement, with_statements, with_lines, region_alone}
-use Rattle.asm_reader.specs.Printed.{Printed, IsPrinted, IsLineEnd, ReadsWords, item_line, item_lines, region_text, on_lines, is_no_feed, is_inside_line}
+use Rattle.asm_reader.specs.Printed.{Printed, IsPrinted, IsLineEnd, ReadsWords, item_line, item_lines, region_text, printed_items, on_lines, is_no_feed, is_inside_line}
 use Rattle.asm_reader.proofs.Steps.{no_statements, statement_read}
 use Rattle.asm_reader.proofs.Lines.{no_items, line_read}
 use Rattle.asm_reader.proofs.PrintedTokens.{both_true, line_comment, IsLine, line_statements, line_words, line_closed, item_tokens, head_tokens}
@@ -150,7 +150,7 @@ module _ (reads : Reads) (comments : Comments) (wants : Wants) (some : ReadsWord
   -- the lines of instructions
   items_added : (end : List ℕ) (number : ℕ) (items : List Instr) (printed : List Printed) → IsLineEnd end → AllByRecursion (IsPrinted reads comments) printed
       → length items + length printed ≤ wants.limit
-      → with_lines reads comments wants false number items (whole_lines (item_lines end printed)) ≡ Ok (items ++ on_lines number printed)
+      → with_lines reads comments wants false number items (whole_lines (item_lines end printed)) ≡ Ok (items ++ on_lines number (printed_items printed))
   unfolding item_lines on_lines whole_lines
   items_added end number items [] ends are room = no_items reads comments wants false number items ∙ ap Ok (sym (append-nil items))
   items_added end number items (first ∷ more) ends are room =
@@ -165,14 +165,14 @@ module _ (reads : Reads) (comments : Comments) (wants : Wants) (some : ReadsWord
       ∙ line_added number items (items ++ i ∷ []) (body_of first) end lines spelled.words whole
       (item_tokens reads comments first.text first.note first.item spelled) (words_added number items spelled.words first.item spelled.read fits)
       ∙ items_added end (number + 1) (items ++ i ∷ []) more ends are.1 fit
-      ∙ ap Ok (append_assoc items (i ∷ []) (on_lines (number + 1) more))
+      ∙ ap Ok (append_assoc items (i ∷ []) (on_lines (number + 1) (printed_items more)))
     where
       line_text : (printed : Printed) (end : List ℕ) → item_line end printed ≡ body_of printed ++ end
       line_text printed end = ap (λ v. codes "        " ++ v) (sym (append_assoc printed.text (codes " // @slothy:" ++ printed.note) end))
 
   -- the whole region
   pub region_added : (note end : List ℕ) (printed : List Printed) → list_all is_inside_line note ≡ true → IsLineEnd end → AllByRecursion (IsPrinted reads comments) printed
-      → length printed ≤ wants.limit → region_alone reads comments wants (region_text note end printed) ≡ Ok (on_lines 2 printed)
+      → length printed ≤ wants.limit → region_alone reads comments wants (region_text note end printed) ≡ Ok (on_lines 2 (printed_items printed))
   region_added note end printed inside ends are room =
       let whole = head_whole note end inside ends in
       let fit : 0 + length printed ≤ wants.limit = omega arith in

@@ -1,5 +1,5 @@
 -- A printed region, line by line.
-use Rattle.std.specs.Prelude.{ℕ, ◌+◌, ◌==◌, ◌≡◌, ◌⊎◌, Bool, true, false, not, List, [], ◌∷◌, ◌++◌, codes, Ok, if◌then◌else◌}
+use Rattle.std.specs.Prelude.{ℕ, ◌+◌, ◌==◌, ◌≡◌, ◌⊎◌, Bool, true, false, not, List, [], ◌∷◌, ◌++◌, map, codes, Ok, if◌then◌else◌}
 use Rattle.std.specs.List.{list_all}
 use Rattle.sl_model.specs.declared.instruction.Instr.{Instr}
 use Rattle.sl_model.specs.declared.text.Comments.{Comments}
@@ -11,6 +11,10 @@ pub record Printed : Type 0 where
   pub text : List ℕ
   pub note : List ℕ
   pub item : Instr
+
+-- the instructions that are printed
+abbrev pub printed_items : List Printed → List Instr
+printed_items printed = map (λ p. p.item) printed
 
 -- A text is the end of a line.
 abbrev pub IsLineEnd : List ℕ → Type 0
@@ -32,10 +36,11 @@ item_lines end (first ∷ more) = item_line end first ++ item_lines end more
 abbrev pub region_text : List ℕ → List ℕ → List Printed → List ℕ
 region_text note end printed = region_line note end ++ item_lines end printed
 
--- Is a byte no line feed, and no carriage return either?
+-- Is a byte no line feed?
 abbrev pub is_no_feed : ℕ → Bool
 is_no_feed c = not (c == 10)
 
+-- Is a byte neither a line feed nor a carriage return?
 abbrev pub is_inside_line : ℕ → Bool
 is_inside_line c = if c == 10 then false else not (c == 13)
 
@@ -49,7 +54,7 @@ pub record IsPrinted (reads : Reads) (comments : Comments) (printed : Printed) :
 abbrev pub ReadsWords : Reads → Type 0
 ReadsWords reads = (i : Instr) → reads [] ≡ Ok i → ⊥
 
--- the instructions as they stand on lines that are numbered from a first one
-unfoldable pub on_lines : ℕ → List Printed → List Instr
+-- instructions as they stand on lines that are numbered from a first one
+unfoldable pub on_lines : ℕ → List Instr → List Instr
 on_lines number [] = []
-on_lines number (first ∷ more) = record first.item { line = number } ∷ on_lines (number + 1) more
+on_lines number (i ∷ items) = record i { line = number } ∷ on_lines (number + 1) items

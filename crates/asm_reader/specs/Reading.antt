@@ -1,13 +1,14 @@
 -- The region that a text gives: its parts and its instructions, or the first reason why it gives none.
-use Rattle.std.specs.Prelude.{ℕ, ◌+◌, Bool, false, not, ◌&&◌, ◌||◌, nat_lt, List, [], ◌∷◌, ◌++◌, length, codes, is_some, Option, None, Some, Result, Ok, Err, if◌then◌else◌}
+use Rattle.std.specs.Prelude.{ℕ, ◌+◌, Bool, false, not, ◌&&◌, ◌||◌, nat_lt, List, [], ◌∷◌, ◌++◌, length, take, codes, is_some, Option, None, Some, Result, Ok, Err, if◌then◌else◌}
 use Rattle.std.specs.List.{list_any}
+use Rattle.std.specs.Str.{str_eq_ignore_ascii_case}
 use Rattle.sl_model.specs.declared.register.Reg.{Reg}
 use Rattle.sl_model.specs.declared.instruction.Instr.{Instr}
 use Rattle.sl_model.specs.declared.text.Comments.{Comments}
 use Rattle.sl_model.specs.declared.text.CutRefusal.{CutRefusal}
 use Rattle.sl_model.specs.declared.text.CutRefusal.TheVariants as cuts
 use Rattle.sl_model.specs.Source.{outputs, place_from}
-use Rattle.sl_model.specs.Text.{Parts, whole_lines, without_end, cut, holds}
+use Rattle.sl_model.specs.Text.{Parts, whole_lines, numbered_lines, without_end, cut}
 use Rattle.sl_model.specs.Token.{Lexeme, tokens, open_behind}
 use Rattle.sl_isa.specs.declared.reasons.FormReason.{FormReason}
 use Rattle.asm_reader.specs.declared.reasons.Reason.{Reason}
@@ -78,20 +79,29 @@ with_lines reads comments wants inside number items (line ∷ lines) =
     >>= λ longer.
     with_lines reads comments wants (open_behind inside (tokens comments inside (without_end line))) (number + 1) longer lines
 
--- Is a block comment open behind some lines?
-unfoldable pub open_after : Comments → Bool → List (List ℕ) → Bool
+-- Is a block comment open behind some numbered lines?
+unfoldable pub open_after : Comments → Bool → List (ℕ × List ℕ) → Bool
 open_after comments inside [] = inside
-open_after comments inside (line ∷ lines) =
-    open_after comments (open_behind inside (tokens comments inside (without_end line))) lines
+open_after comments inside (line ∷ lines) = open_after comments (open_behind inside (tokens comments inside line.1)) lines
+
+-- Does a text begin with a word, in letters of either case?
+abbrev pub begins_with : List ℕ → List ℕ → Bool
+begins_with word text =
+    if nat_lt (length text) (length word) then false else str_eq_ignore_ascii_case (take (length word) text) word
+
+-- Does a word stand somewhere in a text, in letters of either case?
+unfoldable pub stands_in : List ℕ → List ℕ → Bool
+stands_in word [] = false
+stands_in word (c ∷ text) = begins_with word (c ∷ text) || stands_in word text
 
 -- Does a line hold a word of a macro or of an alias, which aren't read yet?
 abbrev pub holds_unbuilt : List ℕ → Bool
-holds_unbuilt line = holds (codes ".macro") line || (holds (codes ".req") line || holds (codes ".unreq") line)
+holds_unbuilt line = stands_in (codes ".macro") line || (stands_in (codes ".req") line || stands_in (codes ".unreq") line)
 
--- the number of the first such line, of lines that are numbered from a first one
-unfoldable pub first_unbuilt : ℕ → List (List ℕ) → Option ℕ
-first_unbuilt number [] = None
-first_unbuilt number (line ∷ lines) = if holds_unbuilt line then Some number else first_unbuilt (number + 1) lines
+-- the number of the first such line of some numbered lines
+unfoldable pub first_unbuilt : List (ℕ × List ℕ) → Option ℕ
+first_unbuilt [] = None
+first_unbuilt (line ∷ lines) = if holds_unbuilt line.1 then Some line.0 else first_unbuilt lines
 
 abbrev pub unless_at : {A : Type 0} → Option ℕ → A → Result A Refusal
 unless_at None x = Ok x
@@ -119,9 +129,9 @@ pub record Region : Type 0 where
 unfoldable pub text_region : Reads → Comments → Wants → List ℕ → List ℕ → List ℕ → Result Region Refusal
 text_region reads comments wants start end text = do
   parts ← parts_or (cut start end text)
-  built ← unless_at (first_unbuilt 1 (whole_lines parts.before)) parts
+  built ← unless_at (first_unbuilt (numbered_lines 1 parts.before)) parts
   items ←
-      with_lines reads comments wants (open_after comments false (whole_lines built.before)) built.first [] (whole_lines built.body)
+      with_lines reads comments wants (open_after comments false (numbered_lines 1 built.before)) built.first [] (whole_lines built.body)
   Ok (record { parts = built; items = items })
 
 -- the items of a region that is read by itself, with nothing before it

@@ -55,7 +55,7 @@ has_note statement = list_any is_note statement
 abbrev pub stands_behind : Lexeme → Lexeme → Bool
 stands_behind before token = token.start == before.start + length before.text
 
--- Is this a directive that is looked at later: its name is `.req` or `.unreq`?
+-- Is this the name of a directive that gives a register another name, or takes it away?
 abbrev pub is_alias_word : List ℕ → Bool
 is_alias_word text = if str_eq_ignore_ascii_case text (codes "req") then true else str_eq_ignore_ascii_case text (codes "unreq")
 
@@ -99,10 +99,11 @@ abbrev pub mnemonic : List Lexeme → List ℕ
 mnemonic [] = []
 mnemonic (first ∷ tokens) = if is_word first.kind then first.text ++ suffixes first tokens else []
 
--- the mnemonics of branches, and of the accesses to memory that are read later
+-- the mnemonics of branches, which aren't read yet
 abbrev pub branch_mnemonics : List (List ℕ)
 branch_mnemonics = codes "b" ∷ codes "b.ne" ∷ codes "bne" ∷ codes "cbnz" ∷ []
 
+-- the mnemonics of accesses to memory, which aren't read yet
 abbrev pub access_mnemonics : List (List ℕ)
 access_mnemonics = codes "ldr" ∷ codes "str" ∷ codes "ldur" ∷ codes "stur" ∷ codes "ldp" ∷ codes "stp" ∷ []
 
@@ -115,7 +116,7 @@ is_later_name name =
 abbrev pub begins_unbuilt : List Lexeme → Bool
 begins_unbuilt tokens = if begins_with_dot tokens then true else (if is_aliasing tokens then true else has_label tokens)
 
--- Is a statement, without its comments, one that is read later: a directive, a label, a branch, an access, or one with a
+-- Is a statement, without its comments, one that isn't read yet: a directive, a label, a branch, an access, or one with a
 -- symbolic register?
 abbrev pub is_unbuilt : List Lexeme → Bool
 is_unbuilt tokens =

@@ -2,7 +2,7 @@
 ghost use Rattle.std.specs.Prelude.{◌≡◌, ◌&&◌, ◌<◌, ◌^◌, false, [], List, length, IfOk, Result};
 ghost use Rattle.std.specs.List.{filter_map, list_any};
 ghost use Rattle.sl_model.specs.declared.instruction.Instr.{Instr as InstrValue};
-ghost use Rattle.sl_model.specs.Text.{whole_lines};
+ghost use Rattle.sl_model.specs.Text.{whole_lines, numbered_lines};
 ghost use Rattle.sl_model.specs.Token.{tokens as line_tokens, open_behind};
 ghost use Rattle.sl_isa.specs.declared.reasons.FormReason.{FormReason as FormReasonValue};
 ghost use Rattle.sl_isa.specs.Arch.{Answers};
@@ -15,7 +15,7 @@ use crate::reasons::{ReadRefusal, Reason, Refusal, Wants};
 use crate::statements::{first_statement, has_note, is_unbuilt, words_of};
 use legal_space::sources::place_of;
 use sl_isa::{Arch, FormErr, FormReason, Instr, Reg};
-use sl_text::{Comments, Line, Token, split_line, tokens, without_end};
+use sl_text::{Comments, Line, Token, lines, split_line, tokens, without_end};
 use std::alloc::{AllocError, Global};
 
 /// How a text is read.
@@ -165,34 +165,26 @@ fn push_statements<A: Arch>(
     Ok(())
 }
 
-/// The tokens of a line, and whether a block comment is open behind them.
-#[derive(Drop)]
-pub(crate) struct LineTokens<'a> {
-    pub tokens: Vec<Token<'a>>,
-    pub unclosed: bool,
-}
-
-/// Takes a line apart; `inside` says that a block comment is open before it.
-pub(crate) fn take_apart<'a>(
+/// The tokens of a line; `inside` says that a block comment is open before it.
+pub(crate) fn tokens_of<'a>(
     manner: Manner,
     line: Line<'a>,
     inside: bool,
-) -> Result<LineTokens<'a>, AllocError>
+) -> Result<Vec<Token<'a>>, AllocError>
     requires { length line.text.now < 2 ^ 31 }
-    ensures tokens { IfOk result
-        (λ taken. lexemes taken.tokens.items ≡ line_tokens manner.comments inside line.entry.text.now) }
-    ensures unclosed { IfOk result
-        (λ taken. taken.unclosed ≡ open_behind inside (line_tokens manner.comments inside line.entry.text.now)) }
+    ensures { IfOk result (λ list. lexemes list.items ≡ line_tokens manner.comments inside line.entry.text.now) }
 {
-    let mut list = Vec::new(manner.alloc);
-    let mut left = tokens(line, manner.comments, inside);
-    while let Some(token) = left.next() {
-        list.push(token)?;
-    }
-    Ok(LineTokens {
-        tokens: list,
-        unclosed: left.still_inside(),
-    })
+    tokens(line, manner.comments, inside).collect(manner.alloc)
+}
+
+/// Is a block comment open behind a line? `inside` says that one is open before it.
+pub(crate) fn is_open_behind(comments: Comments, line: Line<'_>, inside: bool) -> bool
+    requires { length line.text.now < 2 ^ 31 }
+    ensures { result ≡ open_behind inside (line_tokens comments inside line.entry.text.now) }
+{
+    let mut left = tokens(line, comments, inside);
+    while let Some(_) = left.next() {}
+    left.still_inside()
 }
 
 // Adds the items of a line, and says whether a block comment is open behind it; `inside` says that one is open before it.
@@ -210,9 +202,9 @@ fn push_line<A: Arch>(
     ensures unclosed { IfOk result
         (λ unclosed. unclosed ≡ open_behind inside (line_tokens manner.comments inside line.entry.text.now)) }
 {
-    let taken = take_apart(manner, line, inside)?;
-    push_statements(arch, manner, line.number, &taken.tokens, items)?;
-    Ok(taken.unclosed)
+    let tokens = tokens_of(manner, line, inside)?;
+    push_statements(arch, manner, line.number, &tokens, items)?;
+    Ok(is_open_behind(manner.comments, line, inside))
 }
 
 /// The items of the lines of a text, whose first line has this number; `inside` says that a block comment is open before it.
@@ -241,27 +233,14 @@ pub(crate) fn items_of<A: Arch>(
     Ok(items)
 }
 
-// Is a block comment open behind a line?
-fn is_open_behind(comments: Comments, line: Line<'_>, inside: bool) -> bool
-    requires { length line.text.now < 2 ^ 31 }
-    ensures { result ≡ open_behind inside (line_tokens comments inside line.entry.text.now) }
-{
-    let mut left = tokens(line, comments, inside);
-    while let Some(_) = left.next() {}
-    left.still_inside()
-}
-
 /// Is a block comment open behind a text?
 pub(crate) fn is_open_after(comments: Comments, text: &str) -> bool
     requires { length text.now < 2 ^ 31 }
-    ensures { result ≡ spec.open_after comments false (whole_lines text.now) }
+    ensures { result ≡ spec.open_after comments false (numbered_lines 1 text.now) }
 {
     let mut unclosed = false;
-    let mut rest = text;
-    while let Some((line, below)) = split_line(rest) {
-        let text = without_end(line);
-        unclosed = is_open_behind(comments, Line { number: 1, text }, unclosed);
-        rest = below;
+    for line in lines(text, 1) {
+        unclosed = is_open_behind(comments, line, unclosed);
     }
     unclosed
 }

@@ -1,7 +1,7 @@
 //! The region of a text: its instructions, or why it has none.
 ghost use Rattle.std.specs.Prelude.{◌≡◌, ◌≤◌, ◌<◌, ◌^◌, length, IfOk};
 ghost use Rattle.std.specs.List.{AllByRecursion};
-ghost use Rattle.sl_model.specs.Text.{whole_lines, cut};
+ghost use Rattle.sl_model.specs.Text.{numbered_lines, cut};
 ghost use Rattle.sl_model.specs.Lawful.{IsValid};
 ghost use Rattle.sl_text.specs.Cut.{parts_of};
 ghost use Rattle.legal_space.specs.Testable.{AreValid};
@@ -12,7 +12,7 @@ ghost use Rattle.asm_reader.specs.Views.{comments_of, Answers, Gives};
 use crate::items::{Manner, is_open_after, items_of};
 use crate::reasons::{ReadRefusal, Reason, Refusal, Wants};
 use sl_isa::{Arch, ArchName, Instr};
-use sl_text::{Comments, Cut, CutRefusal, cut_region, holds, split_line};
+use sl_text::{Comments, Cut, CutRefusal, cut_region, lines};
 use std::alloc::Global;
 
 /// A region: its text, cut at the markers, and its instructions.
@@ -61,32 +61,51 @@ fn cut_parts<'a>(text: &'a str, start: &str, end: &str) -> Result<Cut<'a>, Refus
     }
 }
 
+// Does a text begin with a word, in letters of either case?
+fn begins_with(text: &[u8], word: &[u8]) -> bool
+    ensures { result ≡ spec.begins_with word.now text.now }
+{
+    if text.len() < word.len() {
+        return false;
+    }
+    text[..word.len()].eq_ignore_ascii_case(word)
+}
+
+// Does a word stand somewhere in a text, in letters of either case?
+fn stands_in(text: &[u8], word: &[u8]) -> bool
+    ensures { result ≡ spec.stands_in word.now text.now }
+{
+    for place in 0..text.len() {
+        if begins_with(&text[place..], word) {
+            return true;
+        }
+    }
+    false
+}
+
 // Does a line hold a word of a macro or of an alias?
 fn holds_unbuilt(line: &str) -> bool
     ensures { result ≡ spec.holds_unbuilt line.now }
 {
-    if holds(line, ".macro") {
+    let text = line.as_bytes();
+    if stands_in(text, b".macro") {
         return true;
     }
-    if holds(line, ".req") {
+    if stands_in(text, b".req") {
         return true;
     }
-    holds(line, ".unreq")
+    stands_in(text, b".unreq")
 }
 
 // The number of the first line of a text that holds such a word.
 fn first_unbuilt(text: &str) -> Option<u32>
     requires { length text.now < 2 ^ 31 }
-    ensures { result ≡ spec.first_unbuilt 1 (whole_lines text.now) }
+    ensures { result ≡ spec.first_unbuilt (numbered_lines 1 text.now) }
 {
-    let mut rest = text;
-    let mut number = 1;
-    while let Some((line, below)) = split_line(rest) {
-        if holds_unbuilt(line) {
-            return Some(number);
+    for line in lines(text, 1) {
+        if holds_unbuilt(line.text) {
+            return Some(line.number);
         }
-        number += 1;
-        rest = below;
     }
     None
 }
@@ -95,7 +114,7 @@ fn first_unbuilt(text: &str) -> Option<u32>
 fn built_parts(cut: Cut<'_>) -> Result<Cut<'_>, Refusal>
     requires { length cut.before.now < 2 ^ 31 }
     ensures answer { Answers parts_of result
-        (spec.unless_at (spec.first_unbuilt 1 (whole_lines cut.entry.before.now)) (parts_of cut.entry)) }
+        (spec.unless_at (spec.first_unbuilt (numbered_lines 1 cut.entry.before.now)) (parts_of cut.entry)) }
     ensures same { IfOk result (λ built. built ≡ cut.entry) }
 {
     match first_unbuilt(cut.before) {

@@ -249,7 +249,7 @@ fn is_branch(name: &[u8]) -> bool
     name.eq_ignore_ascii_case(b"cbnz")
 }
 
-// Whether a mnemonic is one of an access to memory that is read later.
+// Whether a mnemonic is one of an access to memory, which isn't read yet.
 fn is_later_access(name: &[u8]) -> bool
     ensures { result ≡ list_any (str_eq_ignore_ascii_case name.now) spec.access_mnemonics }
 {
@@ -278,7 +278,7 @@ fn is_later_name(name: &[u8]) -> bool
     is_branch(name) || is_later_access(name)
 }
 
-// Whether the beginning of a statement says that it is read later: a directive, a new name for a register, a label.
+// Whether the beginning of a statement says that it isn't read yet: a directive, a new name for a register, a label.
 fn begins_unbuilt(tokens: &[Token<'_>]) -> bool
     ensures { result ≡ spec.begins_unbuilt (lexemes tokens.now) }
 {
@@ -298,7 +298,7 @@ fn has_symbol(tokens: &[Token<'_>]) -> bool
     tokens.iter().any(|token| is_mark(b'<', token))
 }
 
-/// Whether a statement, without its comments, is one that is read later.
+/// Whether a statement, without its comments, is one that isn't read yet.
 pub(crate) fn is_unbuilt(alloc: Global, tokens: &[Token<'_>]) -> Result<bool, AllocError>
     ensures { IfOk result (λ unbuilt. unbuilt ≡ spec.is_unbuilt (lexemes tokens.now)) }
 {

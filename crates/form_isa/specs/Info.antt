@@ -1,5 +1,5 @@
 -- What a row says of its form: the registers of its operands and outputs, and which outputs are tied.
--- No row accesses memory yet.
+-- No row accesses memory yet. Source: this project's own format.
 use Rattle.std.specs.Prelude.{ℕ, ◌+◌, ◌^◌, Bool, true, false, zero, suc, List, [], ◌∷◌, ◌++◌, length, Option, None, Some, if◌then◌else◌}
 use Rattle.sl_model.specs.declared.register.RegSet.{RegSet}
 use Rattle.sl_model.specs.declared.instruction.FormInfo.{FormInfo}

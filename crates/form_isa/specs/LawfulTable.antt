@@ -1,5 +1,5 @@
 -- Tests of tables, which the checker computes: a row writes what its meaning gives, and its instructions are known by their
--- numbers.
+-- numbers. Source: this project's own.
 use Rattle.std.specs.Prelude.{ℕ, ◌*◌, ◌==◌, ◌%◌, ◌/◌, ◌^◌, Bool, true, false, zero, suc, not, List, [], ◌∷◌, length, nat_le, if◌then◌else◌}
 use Rattle.sl_model.specs.declared.register.Bank.{Bank}
 use Rattle.sl_model.specs.declared.register.Bank.TheVariants as bank

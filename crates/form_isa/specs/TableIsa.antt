@@ -1,4 +1,5 @@
--- The instruction set of a table of rows.
+-- The instruction set of a table of rows. Source: this project's own format; what instructions compute has its source in the
+-- definitions of their meanings.
 use Rattle.std.specs.Prelude.{ℕ, ℤ, pos, ◌==◌, ◌-◌, Bool, true, false, not, List, [], ◌∷◌, length, slice_get, slice_index_or, unsigned_abs, Option, None, Some, if◌then◌else◌}
 use Rattle.sl_model.specs.declared.instruction.ArchName.{ArchName}
 use Rattle.sl_model.specs.Machine.{space_of, limit_of}
@@ -28,10 +29,11 @@ numbers_fit ranges [] = true
 numbers_fit [] (n ∷ numbers) = if unsigned_abs n == 0 then numbers_fit [] numbers else false
 numbers_fit (range ∷ ranges) (n ∷ numbers) = if in_range range n then numbers_fit ranges numbers else false
 
--- Is an instruction with these numbers kept as one of its own row, and not of another one?
+-- the last number of an instruction of a row, and 0 where it has none
 abbrev pub last_number : Row → List ℤ → ℤ
 last_number row imms = slice_index_or imms (length (ranges (row_operands row)) - 1) (pos 0)
 
+-- Is an instruction with this last number kept as one of its own row?
 abbrev pub is_kept : Alias → ℤ → Bool
 is_kept alias.Own n = true
 is_kept (alias.As form) n = false

@@ -1,6 +1,6 @@
 -- A printed number is read as the same number.
-use Rattle.std.proofs.Common.{◌≡◌, ◌∙◌, ap, ℕ, zero, suc, ◌+◌, ◌-◌, ◌*◌, ◌/◌, ◌%◌, ◌^◌, ◌==◌, ◌<◌, ◌≤◌, Bool, true, false, not, cond, List, [], ◌∷◌, ◌++◌, arith}
-use Rattle.std.specs.Prelude.{Option, Some, None, option_and_then, nat_lt}
+use Rattle.std.proofs.Common.{◌≡◌, ◌∙◌, sym, ap, ℕ, zero, suc, ◌+◌, ◌-◌, ◌*◌, ◌/◌, ◌%◌, ◌^◌, ◌==◌, ◌<◌, ◌≤◌, Bool, true, false, not, cond, List, [], ◌∷◌, ◌++◌, arith}
+use Rattle.std.specs.Prelude.{Option, Some, None, option_and_then}
 use Rattle.std.specs.Char.{is_ascii_digit}
 use Rattle.std.specs.Fmt.{decimal}
 use Rattle.std.proofs.lemmas.Fmt.{decimal_digit, decimal_by_steps}
@@ -8,6 +8,7 @@ use Rattle.std.proofs.lemmas.Option.{same_Some}
 use Rattle.std.proofs.lemmas.Bool.Decides.{nat_tests}
 use Rattle.form_table.specs.Numerals.{capped, digit_of, leading_zero, digits_value, decimal_value}
 use Rattle.form_table.specs.Numerals as numerals
+use Rattle.form_table.proofs.Digits.{gone_through, gone_through_is, capped_small}
 
 digit_made : (d : ℕ) → d < 10 → numerals.decimal_digit (48 + d) ≡ Some d
 digit_made d h =
@@ -15,19 +16,16 @@ digit_made d h =
     let same : 48 + d - 48 ≡ d = omega arith in
     ap (λ b. cond b (Some (48 + d - 48)) None) test ∙ ap Some same
 
-capped_small : (n : ℕ) → n < 2 ^ 32 → capped n ≡ n
-capped_small n h = let test : nat_lt n (2 ^ 32) ≡ true = grind (arith, nat_tests) in ap (λ b. cond b n (2 ^ 32)) test
-
 -- one digit more
 digits_deeper : (o : Option ℕ) (value n d : ℕ) (ds : List ℕ) →
-    ((v : ℕ) → digits_value 10 v ds ≡ Some n → digits_value 10 v (ds ++ (48 + d) ∷ []) ≡ Some (10 * n + d)) →
-    option_and_then (λ digit. digits_value 10 (capped (10 * value + digit)) ds) o ≡ Some n →
-    option_and_then (λ digit. digits_value 10 (capped (10 * value + digit)) (ds ++ (48 + d) ∷ [])) o ≡ Some (10 * n + d)
+    ((v : ℕ) → gone_through 10 v ds ≡ Some n → gone_through 10 v (ds ++ (48 + d) ∷ []) ≡ Some (10 * n + d)) →
+    option_and_then (λ digit. gone_through 10 (capped (10 * value + digit)) ds) o ≡ Some n →
+    option_and_then (λ digit. gone_through 10 (capped (10 * value + digit)) (ds ++ (48 + d) ∷ [])) o ≡ Some (10 * n + d)
 digits_deeper None value n d ds more e = absurd cc
 digits_deeper (Some digit) value n d ds more e = more (capped (10 * value + digit)) e
 
-digits_more : (value n d : ℕ) (ds : List ℕ) → d < 10 → 10 * n + d < 2 ^ 32 → digits_value 10 value ds ≡ Some n → digits_value 10 value (ds ++ (48 + d) ∷ []) ≡ Some (10 * n + d)
-unfolding digits_value
+digits_more : (value n d : ℕ) (ds : List ℕ) → d < 10 → 10 * n + d < 2 ^ 32 → gone_through 10 value ds ≡ Some n → gone_through 10 value (ds ++ (48 + d) ∷ []) ≡ Some (10 * n + d)
+unfolding gone_through
 digits_more value n d [] h small e =
     let same : value ≡ n = same_Some value n e in
     ap (λ o. option_and_then (λ digit. Some (capped (10 * value + digit))) o) (digit_made d h)
@@ -48,11 +46,11 @@ leads_digit n h = grind (arith, nat_tests)
 
 -- what a decimal text is
 pub record IsDecimal (n : ℕ) (ds : List ℕ) : Type 0 where
-  pub value : n < 2 ^ 32 → digits_value 10 0 ds ≡ Some n
+  pub value : n < 2 ^ 32 → gone_through 10 0 ds ≡ Some n
   pub begins : 0 < n → leads ds ≡ true
 
 one_digit : (n : ℕ) → n < 10 → IsDecimal n ((48 + n) ∷ [])
-unfolding digits_value
+unfolding gone_through
 one_digit n h = record {
   value = λ small.
       let same : 10 * 0 + n ≡ n = omega arith in
@@ -74,12 +72,12 @@ more_digits n ds h p = record {
 pub decimal_is : (n : ℕ) → n < 2 ^ 64 → IsDecimal n (decimal n)
 decimal_is n h = decimal_by_steps IsDecimal one_digit more_digits n h
 
-leads_value : (ds : List ℕ) → leads ds ≡ true → decimal_value ds ≡ digits_value 10 0 ds
+leads_value : (ds : List ℕ) → leads ds ≡ true → decimal_value ds ≡ digits_value 10 ds
 unfolding decimal_value
 leads_value [] e = absurd cc
 leads_value (c ∷ ds) e =
     let test : (c == 48) ≡ false = grind (arith, nat_tests) in
-    ap (λ b. cond b (leading_zero ds) (digits_value 10 0 (c ∷ ds))) test
+    ap (λ b. cond b (leading_zero ds) (digits_value 10 (c ∷ ds))) test
 
 zero_is_read : decimal_value (decimal 0) ≡ Some 0
 unfolding decimal_value
@@ -91,4 +89,4 @@ decimal_is_read zero h = zero_is_read
 decimal_is_read (suc n) h =
     let wide : suc n < 2 ^ 64 = omega arith in
     let p = decimal_is (suc n) wide in
-    leads_value (decimal (suc n)) (p.begins (omega arith)) ∙ p.value h
+    leads_value (decimal (suc n)) (p.begins (omega arith)) ∙ (sym (gone_through_is 10 (decimal (suc n))) ∙ p.value h)

@@ -1,3 +1,4 @@
+pub mod Digits
 pub mod Unique
 pub mod Again
 pub mod Decimals

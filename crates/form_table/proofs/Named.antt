@@ -1,5 +1,5 @@
 -- A register that was read, and a condition, is named so that it is read as itself.
-use Rattle.std.proofs.Common.{◌≡◌, ◌∙◌, sym, ap, subst, ℕ, ◌+◌, ◌==◌, ◌<◌, ◌≤◌, Bool, true, false, cond, List, [], ◌∷◌, length, arith, refl, ◌⊎◌, inl, inr}
+use Rattle.std.proofs.Common.{◌≡◌, ◌∙◌, sym, ap, subst, ℕ, suc, ◌+◌, ◌==◌, ◌<◌, ◌≤◌, Bool, true, false, cond, List, [], ◌∷◌, length, arith, refl, ◌⊎◌, inl, inr}
 use Rattle.std.specs.Prelude.{pos, nat_lt, Option, Some, None, option_and_then, codes, ◌&&◌}
 use Rattle.std.specs.Char.{to_ascii_lowercase}
 use Rattle.std.specs.Str.{str_eq_ignore_ascii_case}
@@ -11,8 +11,8 @@ use Rattle.sl_model.specs.declared.register.Bank.{Bank}
 use Rattle.sl_model.specs.declared.register.Bank.TheVariants.{General, Vector, Flags, Stack}
 use Rattle.sl_model.specs.declared.register.Reg.{Reg}
 use Rattle.sl_model.specs.Register.{same_reg, same_bool, bank_number}
-use Rattle.form_table.specs.Numerals.{decimal_value, digits_value}
-use Rattle.form_table.specs.Spells.{machine_reg, below_count, numbered, but_13, register_of, condition_names, name_place, condition_of}
+use Rattle.form_table.specs.Numerals.{decimal_value, digits_number}
+use Rattle.form_table.specs.Spells.{machine_reg, below_count, numbered, unless_r13, register_of, condition_names, name_place, condition_of}
 use Rattle.form_table.specs.Printed.{register_name, condition_text}
 use Rattle.form_table.specs.declared.rows.Letter.{Letter}
 use Rattle.form_table.specs.declared.rows.Letter.TheVariants as letter
@@ -70,38 +70,38 @@ named_below : (letter : Letter) (bank : Bank) (count n : ℕ) → n < count → 
 named_below letter bank count n below few e = named_is letter (machine_reg bank n) (omega arith) e
 
 x_named : (n : ℕ) → n < 31 → is_named letter.X (machine_reg General n) ≡ true
-unfolding is_named register_of register_name numbered decimal_value digits_value digits same_reg always
+unfolding is_named register_of register_name numbered decimal_value digits_number digits same_reg always
 x_named n h = agree_below_at (λ n. is_named letter.X (machine_reg General n)) always 31 n refl h
 
 w_named : (n : ℕ) → n < 31 → is_named letter.W (machine_reg General n) ≡ true
-unfolding is_named register_of register_name numbered decimal_value digits_value digits same_reg always
+unfolding is_named register_of register_name numbered decimal_value digits_number digits same_reg always
 w_named n h = agree_below_at (λ n. is_named letter.W (machine_reg General n)) always 31 n refl h
 
 v_named : (n : ℕ) → n < 32 → is_named letter.V (machine_reg Vector n) ≡ true
-unfolding is_named register_of register_name numbered decimal_value digits_value digits same_reg always
+unfolding is_named register_of register_name numbered decimal_value digits_number digits same_reg always
 v_named n h = agree_below_at (λ n. is_named letter.V (machine_reg Vector n)) always 32 n refl h
 
 q_named : (n : ℕ) → n < 32 → is_named letter.Q (machine_reg Vector n) ≡ true
-unfolding is_named register_of register_name numbered decimal_value digits_value digits same_reg always
+unfolding is_named register_of register_name numbered decimal_value digits_number digits same_reg always
 q_named n h = agree_below_at (λ n. is_named letter.Q (machine_reg Vector n)) always 32 n refl h
 
 d_named : (n : ℕ) → n < 32 → is_named letter.D (machine_reg Vector n) ≡ true
-unfolding is_named register_of register_name numbered decimal_value digits_value digits same_reg always
+unfolding is_named register_of register_name numbered decimal_value digits_number digits same_reg always
 d_named n h = agree_below_at (λ n. is_named letter.D (machine_reg Vector n)) always 32 n refl h
 
 s_named : (n : ℕ) → n < 32 → is_named letter.S (machine_reg Vector n) ≡ true
-unfolding is_named register_of register_name numbered decimal_value digits_value digits same_reg always
+unfolding is_named register_of register_name numbered decimal_value digits_number digits same_reg always
 s_named n h = agree_below_at (λ n. is_named letter.S (machine_reg Vector n)) always 32 n refl h
 
 -- r13 aside
 r_named : (n : ℕ) → n < 15 → cond (n == 13) true (is_named letter.R (machine_reg General n)) ≡ true
-unfolding is_named register_of register_name numbered decimal_value digits_value digits same_reg always
+unfolding is_named register_of register_name numbered decimal_value digits_number digits same_reg always
 r_named n h = agree_below_at (λ n. cond (n == 13) true (is_named letter.R (machine_reg General n))) always 15 n refl h
 
 -- those with names of their own
 own_named : (is_named letter.X (machine_reg General 31) ≡ true) × (is_named letter.X (machine_reg Stack 0) ≡ true)
     × (is_named letter.W (machine_reg General 31) ≡ true) × (is_named letter.R (machine_reg General 14) ≡ true) × (is_named letter.R (machine_reg Stack 0) ≡ true)
-unfolding is_named register_of register_name numbered decimal_value digits_value digits same_reg
+unfolding is_named register_of register_name numbered decimal_value digits_number digits same_reg
 own_named = (refl, refl, refl, refl, refl)
 
 -- a register that is spelled by a number
@@ -128,13 +128,13 @@ number_shown : (letter : Letter) (bank : Bank) (count : ℕ) (r : Reg) → count
 number_shown letter bank count r few all b =
     own_shown letter (machine_reg bank b.number) r (let below = b.below in omega arith) (all b.number b.below) b.is
 
-but_13_some : (b : Bool) (q r : Reg) → (q.number == 13) ≡ b → cond b None (Some q) ≡ Some r → (Some q ≡ Some r) × ((r.number == 13) ≡ false)
-but_13_some true q r t e = absurd cc
-but_13_some false q r t e = (e, subst (λ (v : Reg). (v.number == 13) ≡ false) (same_Some q r e) t)
+unless_r13_some : (b : Bool) (q r : Reg) → (q.number == 13) ≡ b → cond b None (Some q) ≡ Some r → (Some q ≡ Some r) × ((r.number == 13) ≡ false)
+unless_r13_some true q r t e = absurd cc
+unless_r13_some false q r t e = (e, subst (λ (v : Reg). (v.number == 13) ≡ false) (same_Some q r e) t)
 
-but_13_is : (o : Option Reg) (r : Reg) → but_13 o ≡ Some r → (o ≡ Some r) × ((r.number == 13) ≡ false)
-but_13_is None r e = absurd cc
-but_13_is (Some q) r e = but_13_some (q.number == 13) q r refl e
+unless_r13_is : (o : Option Reg) (r : Reg) → unless_r13 o ≡ Some r → (o ≡ Some r) × ((r.number == 13) ≡ false)
+unless_r13_is None r e = absurd cc
+unless_r13_is (Some q) r e = unless_r13_some (q.number == 13) q r refl e
 
 r_shown : (r : Reg) → (r.number == 13) ≡ false → IsBelow General 15 r → ShowsRegister letter.R (Some r)
 r_shown r other b =
@@ -143,9 +143,9 @@ r_shown r other b =
     own_shown letter.R (machine_reg General b.number) r (let below = b.below in omega arith)
     (ap (λ t. cond t true (is_named letter.R (machine_reg General b.number))) (sym test) ∙ r_named b.number b.below) b.is
 
-r_number_shown : (r : Reg) (text : List ℕ) → but_13 (numbered General 114 15 text) ≡ Some r → ShowsRegister letter.R (Some r)
+r_number_shown : (r : Reg) (text : List ℕ) → unless_r13 (numbered General 114 15 text) ≡ Some r → ShowsRegister letter.R (Some r)
 r_number_shown r text e =
-    let parts = but_13_is (numbered General 114 15 text) r e in
+    let parts = unless_r13_is (numbered General 114 15 text) r e in
     r_shown r parts.1 (numbered_is General 114 15 text r parts.0)
 
 -- what two tests give that stand one behind the other
@@ -174,25 +174,29 @@ register_is_read letter.R text r e =
     ⊎_elim (own_shown letter.R (machine_reg General 14) r (omega arith) own_named.3)
     (λ e'. ⊎_elim (own_shown letter.R (machine_reg Stack 0) r (omega arith) own_named.4)
     (r_number_shown r text)
-    (which (str_eq_ignore_ascii_case text (codes "sp")) (machine_reg Stack 0) (but_13 (numbered General 114 15 text)) r e'))
+    (which (str_eq_ignore_ascii_case text (codes "sp")) (machine_reg Stack 0) (unless_r13 (numbered General 114 15 text)) r e'))
     (which (str_eq_ignore_ascii_case text (codes "lr")) (machine_reg General 14) _ r e)
 
 -- the place of a name is one of the names
-name_place_within : (first : ℕ) (names : List (List ℕ)) (text : List ℕ) (n : ℕ) → name_place first names text ≡ Some n → n < first + length names
+one_later : (o : Option ℕ) (count n : ℕ) → ((m : ℕ) → o ≡ Some m → m < count) → option_and_then (λ place. Some (place + 1)) o ≡ Some n → n < suc count
+one_later None count n below e = absurd cc
+one_later (Some m) count n below e = let within : m < count = below m refl in let same : m + 1 ≡ n = same_Some (m + 1) n e in omega (arith, within, same)
+
+name_place_within : (names : List (List ℕ)) (text : List ℕ) (n : ℕ) → name_place names text ≡ Some n → n < length names
 unfolding name_place
-name_place_within first [] text n e = absurd cc
-name_place_within first (name ∷ names) text n e =
-    ⊎_elim (λ (same : first ≡ n). omega arith)
-    (λ (later : name_place (first + 1) names text ≡ Some n). let within : n < first + 1 + length names = name_place_within (first + 1) names text n later in omega arith)
-    (which (str_eq_ignore_ascii_case text name) first (name_place (first + 1) names text) n e)
+name_place_within [] text n e = absurd cc
+name_place_within (name ∷ names) text n e =
+    ⊎_elim (λ (same : 0 ≡ n). let some : 0 < suc (length names) = omega arith in omega (arith, some, same))
+    (one_later (name_place names text) (length names) n (name_place_within names text))
+    (which (str_eq_ignore_ascii_case text name) 0 (option_and_then (λ place. Some (place + 1)) (name_place names text)) n e)
 
 condition_within : (text : List ℕ) (n : ℕ) → condition_of text ≡ Some n → n < 14
 unfolding condition_of
 condition_within text n e =
     ⊎_elim (λ (same : 2 ≡ n). omega arith)
     (λ e'. ⊎_elim (λ (same : 3 ≡ n). omega arith)
-    (name_place_within 0 condition_names text n)
-    (which (str_eq_ignore_ascii_case text (codes "lo")) 3 (name_place 0 condition_names text) n e'))
+    (name_place_within condition_names text n)
+    (which (str_eq_ignore_ascii_case text (codes "lo")) 3 (name_place condition_names text) n e'))
     (which (str_eq_ignore_ascii_case text (codes "hs")) 2 _ n e)
 
 -- Is this number found?

@@ -7,7 +7,7 @@ use Rattle.std.proofs.Math.IntN.{+ℤ_idl}
 use Rattle.std.proofs.lemmas.Bool.Decides.{nat_tests}
 use Rattle.sl_model.specs.declared.text.TokenKind.TheVariants.{Word, Number, Mark}
 use Rattle.sl_model.specs.Token.{Lexeme}
-use Rattle.form_table.specs.Numerals.{some_digits, digits_value, decimal_value, number_value}
+use Rattle.form_table.specs.Numerals.{some_digits, digits_number, decimal_value, number_value}
 use Rattle.form_table.specs.Items.{Item, blank, mark, word, numeral, Found, is_free, is_apart, plain_number, signed_number, found_number, number_of, item_or, token_item, first_item, behind_blank, items_from}
 use Rattle.form_table.specs.Rows.{name_text}
 use Rattle.form_table.specs.Printed.{register_text, number_text, condition_text, slot_text}
@@ -202,7 +202,7 @@ mark_first place tokens code is =
     (mark_cases (λ c. found_number (token Mark (c ∷ []) place ∷ tokens) ≡ None) refl refl refl refl refl code is)
 
 name_none : (n : Name) (place : ℕ) (tokens : List Lexeme) → found_number (name_token n place ∷ tokens) ≡ None
-unfolding found_number signed_number plain_number number_value decimal_value digits_value
+unfolding found_number signed_number plain_number number_value decimal_value digits_number
 name_none n place tokens = elim n as (λ n. found_number (name_token n place ∷ tokens) ≡ None) [
   | name.Lsl ↦ refl
   | name.Lsr ↦ refl

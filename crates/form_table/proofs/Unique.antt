@@ -11,10 +11,10 @@ use Rattle.std.proofs.lemmas.Slice.Eq.{bytes_eq-Decides}
 use Rattle.sl_model.specs.declared.register.Bank.{Bank}
 use Rattle.sl_model.specs.declared.register.Bank.TheVariants.{General, Vector}
 use Rattle.sl_model.specs.declared.register.Reg.{Reg}
-use Rattle.form_table.specs.Numerals.{decimal_value, digits_value}
+use Rattle.form_table.specs.Numerals.{decimal_value, digits_number}
 use Rattle.form_table.specs.Items.{Item, blank, mark, word, numeral}
 use Rattle.form_table.specs.Rows.{name_text, mnemonic_text, slots_of, row_slots}
-use Rattle.form_table.specs.Spells.{Taken, numbered, below_count, but_13, register_of, empty, put, front, ended, comma, fill}
+use Rattle.form_table.specs.Spells.{Taken, numbered, below_count, unless_r13, register_of, empty, put, front, ended, comma, fill}
 use Rattle.form_table.specs.Reads.{has_mnemonic, fit_row, fit_or, fit_from}
 use Rattle.form_table.specs.Tables.{slot_kind, letter_code, is_plain, letters_differ, same_kind_differ, slots_differ, spellings_differ, rows_differ, differs_from, all_differ}
 use Rattle.form_table.specs.declared.rows.Letter.{Letter}
@@ -64,7 +64,7 @@ either false x o r e = inr e
 
 -- `sp` names no register of 32 bits
 no_digit_p : (d : ℕ) → to_ascii_lowercase d ≡ 112 → decimal_value (d ∷ []) ≡ None
-unfolding decimal_value digits_value
+unfolding decimal_value digits_number
 no_digit_p d e = grind (arith, nat_tests)
 
 none_of : {A B : Type 0} (b : Bool) (f : A → Option B) (o : Option A) → o ≡ None → cond b (option_and_then f o) None ≡ None
@@ -106,9 +106,9 @@ plain_no_sp letter.Q text r p e same = let h = plain_head letter.Q text r p e in
 plain_no_sp letter.D text r p e same = let h = plain_head letter.D text r p e in let k : head_of text ≡ 115 = ap first_of same in absurd (let both : 100 ≡ 115 = sym h ∙ k in omega (arith, both))
 plain_no_sp letter.S text r p e same = s_no_sp text r same e
 
-but_13_head : (o : Option Reg) (text : List ℕ) (r : Reg) → ((q : Reg) → o ≡ Some q → head_of text ≡ 114) → but_13 o ≡ Some r → head_of text ≡ 114
-but_13_head None text r h e = absurd cc
-but_13_head (Some q) text r h e = h q refl
+unless_r13_head : (o : Option Reg) (text : List ℕ) (r : Reg) → ((q : Reg) → o ≡ Some q → head_of text ≡ 114) → unless_r13 o ≡ Some r → head_of text ≡ 114
+unless_r13_head None text r h e = absurd cc
+unless_r13_head (Some q) text r h e = h q refl
 
 -- the letters with other names beside
 odd_head : (b : Letter) (text : List ℕ) (r : Reg) → is_plain b ≡ false → register_of b text ≡ Some r →
@@ -123,8 +123,8 @@ odd_head letter.X text r p e =
 odd_head letter.R text r p e =
     ⊎_elim (λ (h : str_eq_ignore_ascii_case text (codes "lr") ≡ true). inr (inl (head_as text (codes "lr") h)))
     (λ e'. ⊎_elim (λ (h : str_eq_ignore_ascii_case text (codes "sp") ≡ true). inr (inr (same_lower text (codes "sp") h)))
-    (λ (h : but_13 (numbered General 114 15 text) ≡ Some r). inl (inr (but_13_head (numbered General 114 15 text) text r (λ q. numbered_head General 114 15 text q) h)))
-    (either (str_eq_ignore_ascii_case text (codes "sp")) _ (but_13 (numbered General 114 15 text)) r e'))
+    (λ (h : unless_r13 (numbered General 114 15 text) ≡ Some r). inl (inr (unless_r13_head (numbered General 114 15 text) text r (λ q. numbered_head General 114 15 text q) h)))
+    (either (str_eq_ignore_ascii_case text (codes "sp")) _ (unless_r13 (numbered General 114 15 text)) r e'))
     (either (str_eq_ignore_ascii_case text (codes "lr")) _ _ r e)
 odd_head letter.W text r p e = absurd cc
 odd_head letter.V text r p e = absurd cc

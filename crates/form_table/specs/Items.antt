@@ -1,4 +1,5 @@
--- The items of an instruction's spelling: what its tokens are, with the blanks that count.
+-- The items of an instruction's spelling: what its tokens are, with the blanks that count. Source: operands of GNU as, where
+-- `#` may be left out before a number; which blanks count is this project's own rule.
 use Rattle.std.specs.Prelude.{ℕ, ℤ, pos, ◌-ℤ◌, ◌+◌, ◌-◌, ◌==◌, ◌||◌, Bool, true, false, not, zero, suc, nat_le, List, [], ◌∷◌, ◌++◌, length, slice_index, Option, None, Some, if◌then◌else◌}
 use Rattle.sl_model.specs.declared.text.TokenKind.{TokenKind}
 use Rattle.sl_model.specs.declared.text.TokenKind.TheVariants as kind

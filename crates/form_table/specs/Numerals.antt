@@ -1,5 +1,6 @@
--- Numbers as instructions spell them.
-use Rattle.std.specs.Prelude.{ℕ, ◌+◌, ◌-◌, ◌*◌, ◌^◌, ◌==◌, ◌&&◌, ◌||◌, nat_le, nat_lt, List, [], ◌∷◌, Option, None, Some, if◌then◌else◌}
+-- Numbers as instructions spell them. Source: the integers of GNU as, decimal or hexadecimal behind `0x`. A zero before other
+-- digits is refused here, since GNU as takes such a number for an octal one.
+use Rattle.std.specs.Prelude.{ℕ, ◌+◌, ◌-◌, ◌*◌, ◌^◌, ◌==◌, ◌&&◌, ◌||◌, nat_le, nat_lt, List, [], ◌∷◌, length, Option, None, Some, if◌then◌else◌}
 use Rattle.std.specs.Char.{is_ascii_digit}
 use Rattle.form_table.specs.Chain.{◌>>=◌}
 
@@ -20,17 +21,23 @@ hex_digit c =
 abbrev pub digit_of : ℕ → ℕ → Option ℕ
 digit_of radix c = if radix == 16 then hex_digit c else decimal_digit c
 
--- the number of these digits behind those of a value
-unfoldable pub digits_value : ℕ → ℕ → List ℕ → Option ℕ
-digits_value radix value [] = Some value
-digits_value radix value (c ∷ text) = do
+-- the number that digits are: each counts as often as the radix to as many as stand behind it
+unfoldable pub digits_number : ℕ → List ℕ → Option ℕ
+digits_number radix [] = Some 0
+digits_number radix (c ∷ text) = do
   digit ← digit_of radix c
-  digits_value radix (capped (radix * value + digit)) text
+  behind ← digits_number radix text
+  Some (digit * radix ^ length text + behind)
+
+abbrev pub digits_value : ℕ → List ℕ → Option ℕ
+digits_value radix text = do
+  n ← digits_number radix text
+  Some (capped n)
 
 -- the same of a text that has a digit
 abbrev pub some_digits : ℕ → List ℕ → Option ℕ
 some_digits radix [] = None
-some_digits radix (c ∷ text) = digits_value radix 0 (c ∷ text)
+some_digits radix (c ∷ text) = digits_value radix (c ∷ text)
 
 -- a decimal number: no zero stands before other digits
 abbrev pub leading_zero : List ℕ → Option ℕ
@@ -39,7 +46,7 @@ leading_zero (c ∷ text) = None
 
 unfoldable pub decimal_value : List ℕ → Option ℕ
 decimal_value [] = None
-decimal_value (c ∷ text) = if c == 48 then leading_zero text else digits_value 10 0 (c ∷ text)
+decimal_value (c ∷ text) = if c == 48 then leading_zero text else digits_value 10 (c ∷ text)
 
 -- a number, which may be hexadecimal behind `0x`
 abbrev pub hex_or_decimal : ℕ → ℕ → List ℕ → Option ℕ

@@ -1,4 +1,5 @@
--- The one printed spelling of an instruction, over any table of rows.
+-- The one printed spelling of an instruction, over any table of rows. Source: this project's own choice among the spellings that
+-- GNU as takes: lower case, `#` before a number, a blank behind each comma.
 use Rattle.std.specs.Prelude.{ℕ, ℤ, pos, ◌+◌, ◌==◌, Bool, true, false, List, [], ◌∷◌, ◌++◌, codes, slice_get, slice_index_or, unsigned_abs, Option, None, Some, if◌then◌else◌}
 use Rattle.std.specs.Fmt.{decimal, signed_decimal}
 use Rattle.sl_model.specs.declared.register.Bank.{Bank}

@@ -1,4 +1,5 @@
--- The instruction that the words of a line spell, over any table of rows, or the first reason why they spell none.
+-- The instruction that the words of a line spell, over any table of rows, or the first reason why they spell none. Source: this
+-- project's own format, for the order of the reasons and for the order of an instruction's inputs and outputs.
 use Rattle.std.specs.Prelude.{ℕ, ℤ, pos, is_some, unwrap_or, ◌+◌, ◌-◌, ◌+ℤ◌, ◌%◌, ◌==◌, Bool, true, false, not, int_le, unsigned_abs, List, [], ◌∷◌, slice_get, slice_index_or, slice_set, Option, None, Some, Result, Ok, Err, if◌then◌else◌}
 use Rattle.std.specs.List.{list_any}
 use Rattle.std.specs.Str.{str_eq_ignore_ascii_case}
@@ -78,6 +79,7 @@ is_multiple step n = if step == 0 then false else n % step == 0
 unfoldable pub in_range : Range → ℤ → Bool
 in_range range n = if int_le range.least n then (if int_le n range.most then is_multiple range.step (unsigned_abs n) else false) else false
 
+-- Does an operand take the number that it holds, if it holds one?
 abbrev pub number_suits : Operand → Option ℤ → Bool
 number_suits operand None = true
 number_suits operand (Some n) = in_range operand.range n
@@ -155,7 +157,7 @@ number_at place [] = pos 0
 number_at place (held ∷ helds) =
     if is_some held.number then (if place == 0 then unwrap_or held.number (pos 0) else number_at (place - 1) helds) else number_at place helds
 
--- an instruction of a row, without line, tag and marks
+-- an instruction of a row, without line and tag, and neither early nor late
 unfoldable pub instr_of : ℕ → Row → List Held → Instr
 instr_of form row helds = record {
   form = form;

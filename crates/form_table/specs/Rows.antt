@@ -1,4 +1,5 @@
--- The rows of instruction tables: how operands are spelled, as lists of slots.
+-- The rows of instruction tables: how operands are spelled, as lists of slots. Source: the words and operands of Arm's
+-- assembler language, DDI 0487, C1.2; rows and slots are this project's own format.
 use Rattle.std.specs.Prelude.{ℕ, Bool, not, ◌==◌, List, [], ◌∷◌, ◌++◌, codes, take}
 use Rattle.std.specs.List.{prefix_len}
 use Rattle.form_table.specs.declared.rows.Letter.TheVariants.{V}

@@ -1,4 +1,5 @@
--- Which words spell which instruction, over any table of rows.
+-- What the operands of a row hold where its slots take the items of a line. Source: the names of registers and conditions are those of
+-- DDI 0487, C1.2, and where they are spelled with `r` those of DDI 0403; letters of either case, as GNU as takes them.
 use Rattle.std.specs.Prelude.{ℕ, ℤ, pos, ◌+◌, ◌==◌, Bool, true, false, nat_lt, List, [], ◌∷◌, codes, Option, None, Some, if◌then◌else◌}
 use Rattle.std.specs.Char.{to_ascii_lowercase}
 use Rattle.std.specs.Str.{str_eq_ignore_ascii_case}
@@ -32,9 +33,9 @@ numbered bank letter count (c ∷ digits) = if to_ascii_lowercase c == letter th
   below_count bank count n) else None
 
 -- r13 is no name
-abbrev pub but_13 : Option Reg → Option Reg
-but_13 None = None
-but_13 (Some r) = if r.number == 13 then None else Some r
+abbrev pub unless_r13 : Option Reg → Option Reg
+unless_r13 None = None
+unless_r13 (Some r) = if r.number == 13 then None else Some r
 
 -- the register that a word names where registers are spelled with a letter
 unfoldable pub register_of : Letter → List ℕ → Option Reg
@@ -48,7 +49,7 @@ register_of letter.D text = numbered Vector 100 32 text
 register_of letter.S text = numbered Vector 115 32 text
 register_of letter.R text =
     if str_eq_ignore_ascii_case text (codes "lr") then Some (machine_reg General 14)
-    else (if str_eq_ignore_ascii_case text (codes "sp") then Some (machine_reg Stack 0) else but_13 (numbered General 114 15 text))
+    else (if str_eq_ignore_ascii_case text (codes "sp") then Some (machine_reg Stack 0) else unless_r13 (numbered General 114 15 text))
 
 -- the conditions on flags by their numbers: each odd one is the opposite of the one before it
 abbrev pub condition_names : List (List ℕ)
@@ -56,16 +57,18 @@ condition_names =
     codes "eq" ∷ codes "ne" ∷ codes "cs" ∷ codes "cc" ∷ codes "mi" ∷ codes "pl" ∷ codes "vs" ∷ codes "vc" ∷ codes "hi" ∷ codes "ls"
     ∷ codes "ge" ∷ codes "lt" ∷ codes "gt" ∷ codes "le" ∷ []
 
--- the place of a name, counted from a number on, in letters of either case
-unfoldable pub name_place : ℕ → List (List ℕ) → List ℕ → Option ℕ
-name_place first [] text = None
-name_place first (name ∷ names) text = if str_eq_ignore_ascii_case text name then Some first else name_place (first + 1) names text
+-- the place of a name among others, counted from 0, in letters of either case
+unfoldable pub name_place : List (List ℕ) → List ℕ → Option ℕ
+name_place [] text = None
+name_place (name ∷ names) text = if str_eq_ignore_ascii_case text name then Some 0 else (do
+  place ← name_place names text
+  Some (place + 1))
 
 -- the number of a condition; two of them have a second name
 unfoldable pub condition_of : List ℕ → Option ℕ
 condition_of text =
     if str_eq_ignore_ascii_case text (codes "hs") then Some 2
-    else (if str_eq_ignore_ascii_case text (codes "lo") then Some 3 else name_place 0 condition_names text)
+    else (if str_eq_ignore_ascii_case text (codes "lo") then Some 3 else name_place condition_names text)
 
 -- an operand without register and number
 abbrev pub empty : Held

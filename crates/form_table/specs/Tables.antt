@@ -1,4 +1,5 @@
--- Tests of tables, which the checker computes: no two rows fit the same words, and what is printed is read again.
+-- Tests of tables, which the checker computes: no two rows fit the same words, and what is printed is read again. Source: this
+-- project's own; nothing of them is Arm's.
 use Rattle.std.specs.Prelude.{ℕ, pos, ◌+◌, ◌^◌, zero, suc, ◌==◌, Bool, true, false, not, int_le, nat_le, nat_lt, unsigned_abs, List, [], ◌∷◌, slice_get, Option, None, Some, if◌then◌else◌}
 use Rattle.std.specs.List.{list_all}
 use Rattle.std.specs.Str.{bytes_eq, str_eq_ignore_ascii_case}

@@ -10,7 +10,7 @@ use sl_text::{Token, TokenKind};
 use std::alloc::Global;
 
 /// An item of an instruction's spelling.
-#[derive(Clone, Copy, Debug, PartialEq, Eq)]
+#[derive(Clone, Copy)]
 pub enum Item<'a> {
     /// A blank that counts.
     Gap,

@@ -55,15 +55,14 @@ fn capped(n: u64) -> u64
     TOO_GREAT
 }
 
-// The number of these digits behind those of a value.
-#[tactic(auto, unfolding(crate::specs::Numerals::digits_value))]
-fn digits_value(radix: u64, value: u64, text: &[u8]) -> Option<u64>
-    requires radix { radix ≤ 16 }
-    requires value { value ≤ 2 ^ 32 }
-    ensures value { result ≡ spec.digits_value radix value text.now }
+// The number that digits are, or `TOO_GREAT` where it is greater.
+#[tactic(auto, unfolding(crate::proofs::Digits::gone_through), using(crate::proofs::Digits::gone_through_is))]
+fn digits_value(radix: u64, text: &[u8]) -> Option<u64>
+    requires { radix ≤ 16 }
+    ensures value { result ≡ spec.digits_value radix text.now }
     ensures small { IfSome result (λ n. n ≤ 2 ^ 32) }
 {
-    let mut value = value;
+    let mut value = 0;
     let mut rest = text;
     while let Some((c, behind)) = rest.split_first() {
         value = capped(radix * value + digit_of(radix, *c)?);
@@ -81,7 +80,7 @@ pub fn decimal_value(text: &[u8]) -> Option<u64>
 {
     let (c, rest) = text.split_first()?;
     if *c != 48 {
-        return digits_value(10, 0, text);
+        return digits_value(10, text);
     }
     if rest.is_empty() {
         return Some(0);
@@ -97,7 +96,7 @@ fn some_digits(text: &[u8]) -> Option<u64>
     if text.is_empty() {
         return None;
     }
-    digits_value(16, 0, text)
+    digits_value(16, text)
 }
 
 /// The value of a decimal number, or of a hexadecimal one behind `0x`: none where the text is neither, and 2^32 where it

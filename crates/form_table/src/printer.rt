@@ -10,27 +10,8 @@ use crate::rows::{Letter, Operand, Row, Shape, Slot, slots_of};
 use crate::spells::{CONDITIONS, Held};
 use crate::table::Table;
 use itoa::Buffer;
-use sl_base::NoMemory;
+use sl_base::{NoMemory, append, append_labelled};
 use sl_isa::{Bank, Instr, Reg};
-
-// Adds a text. After `NoMemory` nothing has changed.
-fn push(out: &mut Vec<u8>, text: &[u8]) -> Result<(), NoMemory>
-    ensures ok { OnOk result (out.new.items ≡ out.old.items ++ text.now) }
-    ensures err { OnErr result (out.new.items ≡ out.old.items) }
-{
-    if out.extend_from_slice(text).is_err() {
-        return Err(NoMemory);
-    }
-    Ok(())
-}
-
-// Adds a letter and a number.
-fn push_numbered(out: &mut Vec<u8>, letter: u8, number: u16) -> Result<(), NoMemory>
-    ensures { OnOk result (out.new.items ≡ out.old.items ++ letter ∷ decimal number) }
-{
-    push(out, &[letter])?;
-    push(out, Buffer::new().format(number).as_bytes())
-}
 
 // Whether a register is the stack pointer.
 fn is_stack(bank: Bank) -> bool
@@ -47,31 +28,31 @@ fn push_register(out: &mut Vec<u8>, letter: Letter, r: Reg) -> Result<(), NoMemo
     match letter {
         Letter::X => {
             if is_stack(r.bank) {
-                return push(out, b"sp");
+                return append(out, b"sp");
             }
             if r.number == 31 {
-                return push(out, b"xzr");
+                return append(out, b"xzr");
             }
-            push_numbered(out, b'x', r.number)
+            append_labelled(out, &[b'x'], u64::from(r.number))
         }
         Letter::W => {
             if r.number == 31 {
-                return push(out, b"wzr");
+                return append(out, b"wzr");
             }
-            push_numbered(out, b'w', r.number)
+            append_labelled(out, &[b'w'], u64::from(r.number))
         }
-        Letter::V => push_numbered(out, b'v', r.number),
-        Letter::Q => push_numbered(out, b'q', r.number),
-        Letter::D => push_numbered(out, b'd', r.number),
-        Letter::S => push_numbered(out, b's', r.number),
+        Letter::V => append_labelled(out, &[b'v'], u64::from(r.number)),
+        Letter::Q => append_labelled(out, &[b'q'], u64::from(r.number)),
+        Letter::D => append_labelled(out, &[b'd'], u64::from(r.number)),
+        Letter::S => append_labelled(out, &[b's'], u64::from(r.number)),
         Letter::R => {
             if is_stack(r.bank) {
-                return push(out, b"sp");
+                return append(out, b"sp");
             }
             if r.number == 14 {
-                return push(out, b"lr");
+                return append(out, b"lr");
             }
-            push_numbered(out, b'r', r.number)
+            append_labelled(out, &[b'r'], u64::from(r.number))
         }
     }
 }
@@ -83,7 +64,7 @@ fn push_number(out: &mut Vec<u8>, number: Option<i64>) -> Result<(), NoMemory>
     let Some(n) = number else {
         return Ok(());
     };
-    push(out, Buffer::new().format(n).as_bytes())
+    append(out, Buffer::new().format(n).as_bytes())
 }
 
 // The name at a place, and nothing behind the last one.
@@ -104,7 +85,7 @@ fn push_condition(out: &mut Vec<u8>, number: Option<i64>) -> Result<(), NoMemory
     let Some(n) = number else {
         return Ok(());
     };
-    push(out, name_at(&CONDITIONS, n.unsigned_abs()))
+    append(out, name_at(&CONDITIONS, n.unsigned_abs()))
 }
 
 // Adds what is printed for a slot.
@@ -113,14 +94,14 @@ fn push_slot(out: &mut Vec<u8>, held: Held, slot: Slot) -> Result<(), NoMemory>
     ensures { OnOk result (out.new.items ≡ out.old.items ++ spec.slot_text held slot) }
 {
     match slot {
-        Slot::Gap => push(out, b" "),
+        Slot::Gap => append(out, b" "),
         Slot::Mark(code) => {
             if code == b',' {
-                return push(out, b", ");
+                return append(out, b", ");
             }
-            push(out, &[code])
+            append(out, &[code])
         }
-        Slot::Name(name) => push(out, name.text().as_bytes()),
+        Slot::Name(name) => append(out, name.text().as_bytes()),
         Slot::Register(letter) => {
             let Some(r) = held.register else {
                 return Ok(());
@@ -128,7 +109,7 @@ fn push_slot(out: &mut Vec<u8>, held: Held, slot: Slot) -> Result<(), NoMemory>
             push_register(out, letter, r)
         }
         Slot::Number => {
-            push(out, b"#")?;
+            append(out, b"#")?;
             push_number(out, held.number)
         }
         Slot::Index => push_number(out, held.number),
@@ -275,7 +256,7 @@ fn push_operands(
 fn push_row(out: &mut Vec<u8>, row: &Row, instr: &Instr) -> Result<(), NoMemory>
     ensures { OnOk result (out.new.items ≡ out.old.items ++ spec.row_text row.now (spec.helds_in instr.now (row_operands row.now) 0 0 0)) }
 {
-    push(out, row.mnemonic())?;
+    append(out, row.mnemonic())?;
     push_operands(out, instr, Slot::Gap, &row.operands(), 0, 0, 0)
 }
 
@@ -290,5 +271,5 @@ pub fn print_form(table: &Table<'_>, instr: &Instr, out: &mut Vec<u8>) -> Result
     };
     let mut text = Vec::new(*out.allocator());
     push_row(&mut text, row, instr)?;
-    push(out, &text)
+    append(out, &text)
 }

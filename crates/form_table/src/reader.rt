@@ -1,7 +1,6 @@
 //! Reading an instruction by a table of rows.
 ghost use Rattle.std.specs.Prelude.{◌≡◌, ◌<◌, ◌+◌, length, map, true, slice_get, IfOk};
 ghost use Rattle.std.specs.List.{list_any};
-ghost use Rattle.sl_model.specs.RegSets.{bit_of, is_in_bank, set_has};
 ghost use Rattle.form_table.specs.ItemViews.{item_value, lexemes};
 ghost use Rattle.form_table.specs.Rows.{row_operands};
 ghost use Rattle.form_table.specs.Reads as spec;
@@ -14,6 +13,7 @@ use crate::rows::{Alias, Operand, Range, Role, Row, Sum};
 use crate::spells::{Held, fill};
 use crate::table::Table;
 use sl_isa::reasons::{FormErr, FormReason};
+use sl_isa::sets::set_has;
 use sl_isa::{Bank, Instr, Reg, RegSet};
 use sl_text::{Token, TokenKind};
 use std::alloc::Global;
@@ -26,7 +26,7 @@ pub struct Fit {
 }
 
 /// Which registers are picked from operands.
-#[derive(Clone, Copy, Debug, PartialEq, Eq)]
+#[derive(Clone, Copy)]
 pub enum Pick {
     /// Those that are read where they stand.
     Read,
@@ -166,46 +166,6 @@ fn numbers_suit(operands: &[Operand], helds: &[Held]) -> bool
         return numbers_suit(operands, helds);
     }
     false
-}
-
-// The bit of a register in a set, and whether its bank has one of its number.
-fn bit_of(r: Reg) -> (u32, bool)
-    ensures bit { result.1 ≡ true → result.0 ≡ bit_of r.bank r.number }
-    ensures bank { result.1 ≡ is_in_bank r }
-    ensures small { result.0 < 128 }
-{
-    let number = u32::from(r.number);
-    match r.bank {
-        Bank::General => {
-            if number < 32 {
-                return (number, true);
-            }
-            (0, false)
-        }
-        Bank::Vector => {
-            if number < 32 {
-                return (32 + number, true);
-            }
-            (0, false)
-        }
-        Bank::Flags => (64, r.number < 1),
-        Bank::Stack => (65, r.number < 1),
-    }
-}
-
-/// Whether a register is in a set.
-#[tactic(auto, unfolding(sl_model::specs::RegSets::set_has))]
-pub fn set_has(set: RegSet, r: Reg) -> bool
-    ensures { result ≡ set_has set r }
-{
-    if r.symbolic {
-        return false;
-    }
-    let (bit, is_there) = bit_of(r);
-    if !is_there {
-        return false;
-    }
-    (set.bits >> bit) & 1 == 1
 }
 
 // Whether an operand takes a register.
@@ -548,7 +508,7 @@ fn knows(table: &Table<'_>, first: &Token<'_>, tokens: &[Token<'_>]) -> bool
     is_mnemonic(table, first.text)
 }
 
-/// Reads the instruction that the tokens of a line spell, without line, tag and marks. The tokens hold no comments.
+/// Reads the instruction that the tokens of a line spell, without line and tag, and neither early nor late. The tokens hold no comments.
 /// Where they spell none, the answer is the first reason for it.
 #[tactic(auto, unfolding(crate::specs::Reads::reads))]
 pub fn read_form(table: &Table<'_>, alloc: Global, tokens: &[Token<'_>]) -> Result<Instr, FormErr>

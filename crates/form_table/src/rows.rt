@@ -7,7 +7,7 @@ use sl_isa::RegSet;
 use sl_isa::meaning::Meaning;
 
 /// How a register is spelled: by a letter and a number, as `x1`.
-#[derive(Clone, Copy, Debug, PartialEq, Eq)]
+#[derive(Clone, Copy)]
 pub enum Letter {
     /// `x0` to `x30`, `xzr` and `sp`: 64 bits.
     X,
@@ -26,7 +26,7 @@ pub enum Letter {
 }
 
 /// A word that stands in a spelling beside mnemonic and registers.
-#[derive(Clone, Copy, Debug, PartialEq, Eq)]
+#[derive(Clone, Copy)]
 pub enum Name {
     Lsl,
     Lsr,
@@ -71,7 +71,7 @@ impl Name {
 }
 
 /// A place of a spelling, which takes exactly one item.
-#[derive(Clone, Copy, Debug, PartialEq, Eq)]
+#[derive(Clone, Copy)]
 pub enum Slot {
     /// A blank.
     Gap,
@@ -90,7 +90,7 @@ pub enum Slot {
 }
 
 /// How an operand is spelled: with at most one register and at most one number.
-#[derive(Clone, Copy, Debug, PartialEq, Eq)]
+#[derive(Clone, Copy)]
 pub enum Shape {
     /// There is no such operand.
     Nothing,
@@ -115,7 +115,7 @@ pub enum Shape {
 }
 
 /// What an operand's register is to the instruction.
-#[derive(Clone, Copy, Debug, PartialEq, Eq)]
+#[derive(Clone, Copy)]
 pub enum Role {
     /// It is read.
     In,
@@ -130,7 +130,7 @@ pub enum Role {
 }
 
 /// The numbers that an operand takes: the multiples of `step` from `least` to `most`. A step of 0 takes none.
-#[derive(Clone, Copy, Debug, PartialEq, Eq)]
+#[derive(Clone, Copy)]
 pub struct Range {
     pub least: i64,
     pub most: i64,
@@ -138,7 +138,7 @@ pub struct Range {
 }
 
 /// An operand: its spelling, the role of its register and which registers it takes, and which numbers it takes.
-#[derive(Clone, Copy, Debug, PartialEq, Eq)]
+#[derive(Clone, Copy)]
 pub struct Operand {
     pub shape: Shape,
     pub role: Role,
@@ -147,7 +147,7 @@ pub struct Operand {
 }
 
 /// What the sum of the first two numbers may be.
-#[derive(Clone, Copy, Debug, PartialEq, Eq)]
+#[derive(Clone, Copy)]
 pub enum Sum {
     /// Any number.
     Free,
@@ -156,7 +156,7 @@ pub enum Sum {
 }
 
 /// Under which form a row's spelling is kept and printed.
-#[derive(Clone, Copy, Debug, PartialEq, Eq)]
+#[derive(Clone, Copy)]
 pub enum Alias {
     /// Its own.
     Own,
@@ -169,7 +169,7 @@ pub enum Alias {
 }
 
 /// A row of a table of instructions.
-#[derive(Clone, Copy, Debug, PartialEq, Eq)]
+#[derive(Clone, Copy)]
 pub struct Row {
     /// In lower case, filled up with zeros.
     pub mnemonic: [u8; 8],

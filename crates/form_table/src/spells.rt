@@ -1,5 +1,5 @@
 //! What the operands of a row hold where its slots take the items of a line.
-ghost use Rattle.std.specs.Prelude.{◌≡◌, ◌+◌, ◌<◌, length, map, MatchOption};
+ghost use Rattle.std.specs.Prelude.{◌≡◌, ◌<◌, length, map, IfSome, MatchOption};
 ghost use Rattle.form_table.specs.ItemViews.{item_value};
 ghost use Rattle.form_table.specs.Rows.{slots_of};
 ghost use Rattle.form_table.specs.Spells as spec;
@@ -11,7 +11,7 @@ use crate::rows::{Letter, Row, Shape, Slot, slots_of};
 use sl_isa::{Bank, Reg};
 
 /// What stands in an operand's place: its register and its number.
-#[derive(Clone, Copy, Debug, PartialEq, Eq)]
+#[derive(Clone, Copy)]
 pub struct Held {
     pub register: Option<Reg>,
     pub number: Option<i64>,
@@ -45,8 +45,8 @@ fn numbered(bank: Bank, letter: u8, count: u16, text: &[u8]) -> Option<Reg>
 }
 
 // A register r0 to r12 or r14.
-fn but_13(register: Option<Reg>) -> Option<Reg>
-    ensures { result ≡ spec.but_13 register }
+fn unless_r13(register: Option<Reg>) -> Option<Reg>
+    ensures { result ≡ spec.unless_r13 register }
 {
     let register = register?;
     if register.number == 13 {
@@ -87,7 +87,7 @@ pub fn register_of(letter: Letter, text: &str) -> Option<Reg>
             if text.eq_ignore_ascii_case("sp") {
                 return Some(machine_reg(Bank::Stack, 0));
             }
-            but_13(numbered(Bank::General, b'r', 15, text.as_bytes()))
+            unless_r13(numbered(Bank::General, b'r', 15, text.as_bytes()))
         }
     }
 }
@@ -98,17 +98,19 @@ pub(crate) const CONDITIONS: [[u8; 2]; 14] = [
     *b"gt", *b"le",
 ];
 
-// The place of a name in either case, where the first of the names has this number.
+// The place of a name among others, counted from 0, in letters of either case.
 #[tactic(auto, unfolding(crate::specs::Spells::name_place))]
-fn name_place(first: u8, names: &[[u8; 2]], text: &[u8]) -> Option<u8>
-    requires { first + length names.now < 256 }
-    ensures { result ≡ spec.name_place first names.now text.now }
+fn name_place(names: &[[u8; 2]], text: &[u8]) -> Option<u8>
+    requires { length names.now < 256 }
+    ensures place { result ≡ spec.name_place names.now text.now }
+    ensures within { IfSome result (λ place. place < length names.now) }
 {
     let (name, names) = names.split_first()?;
     if text.eq_ignore_ascii_case(name) {
-        return Some(first);
+        return Some(0);
     }
-    name_place(first + 1, names, text)
+    let place = name_place(names, text)?;
+    Some(place + 1)
 }
 
 // The number of a condition. Two of them have a second name.
@@ -122,7 +124,7 @@ fn condition_of(text: &str) -> Option<u8>
     if text.eq_ignore_ascii_case("lo") {
         return Some(3);
     }
-    name_place(0, &CONDITIONS, text.as_bytes())
+    name_place(&CONDITIONS, text.as_bytes())
 }
 
 // The word that an item is.

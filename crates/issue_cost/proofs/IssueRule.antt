@@ -1,7 +1,7 @@
 -- What the issue rule gives: the next cycle meets its four conditions, no smaller cycle does, and it isn't later than
 -- when all is free and ready.
 use Rattle.std.proofs.Common.{◌≡◌, ℕ, suc, ◌+◌, ◌<◌, ◌≤◌, Bool, true, false, nat_lt, eqb, List, [], ◌∷◌, ◌++◌, length, max, if◌then◌else◌, refl, sym, ◌∙◌, subst, ⊎_elim, zero-add, arith}
-use Rattle.std.proofs.lemmas.Bool.{cases_Bool, ne_eqb, eqb-true, eqb-false, ltb-true, ltb-false}
+use Rattle.std.proofs.lemmas.Bool.{cases_Bool, ne_eqb, eq-eqb, eqb-true, eqb-false, ltb-true, ltb-false}
 use Rattle.sl_model.specs.Cycles.{Push, Issued, issued_at, first_slot, unit_free, next_cycle, last_cycle, MayIssue, issue, issued_from, cycle_count}
 use Rattle.issue_cost.specs.Timeline.{IsFreeBy}
 use Rattle.issue_cost.specs.Tallies.{NoneAfter}
@@ -150,6 +150,15 @@ IsFreeBy-weaken a b (i ∷ done) le by =
     let last : i.cycle + 1 ≤ a = by.0 in
     let kept : i.cycle + i.busy ≤ a = by.1 in
     (omega arith, omega arith, IsFreeBy-weaken a b done le by.2)
+
+-- a unit that an item took when it was free is free again when the item has kept it
+pub unit_free-taken : (i : Issued) (done : List Issued) → unit_free i.unit done ≤ i.cycle → unit_free i.unit (i ∷ done) ≡ i.cycle + i.busy
+unfolding unit_free
+unit_free-taken i done free = rw (eq-eqb i.unit i.unit refl) (omega (arith, free))
+
+-- all is free at most 255 cycles later behind one more item
+pub IsFreeBy-taken : (limit : ℕ) (i : Issued) (done : List Issued) → IsFreeBy limit done → i.cycle ≤ limit → i.busy ≤ 255 → IsFreeBy (limit + 255) (i ∷ done)
+IsFreeBy-taken limit i done by soon brief = (omega (arith, soon), omega (arith, soon, brief), IsFreeBy-weaken limit (limit + 255) done (omega arith) by)
 
 -- the last cycle is before the one by which all is free
 pub last_cycle-within : (limit : ℕ) (done : List Issued) → 1 ≤ limit → IsFreeBy limit done → last_cycle done + 1 ≤ limit

@@ -1,3 +1,4 @@
+//! What items cost on a core.
 ghost use Rattle.std.specs.Prelude.{◌≡◌, ℕ, ◌==◌, ◌&&◌, ◌<◌, ◌≤◌, length, IfOk, IsTrue};
 ghost use Rattle.sl_model.specs.Cycles.{row_of, ready_after, forward_or, is_place};
 ghost use Rattle.issue_cost.specs.Sound.{IsSound, is_sound_row};

@@ -1,5 +1,6 @@
+//! Items as they are issued, one after the other.
 ghost use Rattle.std.specs.Prelude.{◌≡◌, ℕ, ◌+◌, ◌*◌, ◌^◌, ◌<◌, ◌≤◌, List, [], ◌∷◌, ◌++◌, length, IfOk};
-ghost use Rattle.sl_model.specs.Cycles.{Push, MayIssue, next_cycle, issued, cycle_count, row_of};
+ghost use Rattle.sl_model.specs.Cycles.{Push, MayIssue, next_cycle, issued, cycle_count, row_of, unit_free};
 ghost use Rattle.issue_cost.specs.Timeline.{Timeline, IsFreeBy};
 ghost use Rattle.issue_cost.specs.Tallies.{Tallies};
 
@@ -50,7 +51,8 @@ impl Issue {
     }
 
     /// Issues one more item to a unit below 16, where its operands are ready from the cycle `ready` on, at most 2^30,
-    /// and gives its cycle. There has to be room for it. Each push counts with the width of the costs that it got.
+    /// and gives its cycle. There has to be room for it. Each push counts with the width of the costs that it got. The
+    /// unit is free again when the item has kept it.
     pub fn push(&mut self, costs: &Costs, item: u16, unit: u8, ready: u32) -> u32
         requires room { length self.old.pushes < self.old.room }
         requires item { item < length costs.now.rows }
@@ -67,8 +69,11 @@ impl Issue {
         } }
         ensures counted { issued self.new.pushes ≡
             record { unit = unit; busy = (row_of costs.now item).busy; cycle = result } ∷ issued self.old.pushes }
+        ensures kept { unit_free unit (issued self.new.pushes) ≡ result + (row_of costs.now item).busy }
         ensures fits { result ≤ 2 ^ 30 + 2 ^ 24 }
         ensures within { (limit : ℕ) → IsFreeBy limit (issued self.old.pushes) → ready ≤ limit → result ≤ limit }
+        ensures free { (limit : ℕ) → IsFreeBy limit (issued self.old.pushes) → ready ≤ limit
+            → IsFreeBy (limit + 255) (issued self.new.pushes) }
     {
         let cycle = self.cycle_for(costs, unit, ready);
         let busy = costs.busy(item);

@@ -1,3 +1,4 @@
+//! What is kept of the items that were issued, so that the next one's cycle is found without counting them again.
 ghost use Rattle.std.specs.Prelude.{◌≡◌, ℕ, ◌+◌, ◌^◌, ◌<◌, ◌≤◌, List, [], ◌∷◌, length};
 ghost use Rattle.sl_model.specs.Cycles.{Issued, first_slot, next_cycle, unit_free};
 ghost use Rattle.issue_cost.specs.Tallies.{Tallies};

@@ -43,6 +43,7 @@ unfoldable pub long_value : Bool → ℕ → ℕ → ℕ → ℕ → ℕ
 long_value false half d n m = d + n * m
 long_value true half d n m = d + extended half n * extended half m
 
+-- the same of each lane
 unfoldable pub long_values : Bool → ℕ → List ℕ → List ℕ → List ℕ → List ℕ
 long_values signed half [] ns ms = []
 long_values signed half (d ∷ ds) [] ms = []

@@ -1,5 +1,5 @@
 -- Legal choices whose outputs are final in their own registers: each is the item's own choice, and reduced.
-use Rattle.std.proofs.Common.{◌≡◌, ℕ, zero, suc, ◌+◌, ◌<◌, ◌≤◌, ◌⊎◌, Bool, true, false, ◌&&◌, ◌||◌, ◌==◌, not, eqb, List, [], ◌∷◌, length, Option, None, Some, is_some, if◌then◌else◌, inl, inr, refl, sym, ap, ◌∙◌, subst, ⊎_elim, true≢false, slice_get, add-one, arith}
+use Rattle.std.proofs.Common.{◌≡◌, ℕ, zero, suc, ◌+◌, ◌<◌, ◌≤◌, Bool, true, false, ◌&&◌, ◌||◌, ◌==◌, not, eqb, List, [], ◌∷◌, length, Option, None, Some, if◌then◌else◌, inl, inr, refl, sym, ap, ◌∙◌, subst, ⊎_elim, true≢false, slice_get, arith}
 use Rattle.std.specs.List.{list_all, list_any, zip, enumerate_from}
 use Rattle.std.proofs.lemmas.Bool.{and_parts, or_cases, eqb-true, eq-eqb, not-true, both_ways, or_left, or_right}
 use Rattle.sl_model.specs.declared.register.Bank.{Bank}
@@ -11,16 +11,15 @@ use Rattle.sl_model.specs.declared.schedule.Choice.{Choice}
 use Rattle.sl_model.specs.declared.schedule.Source.{Source}
 use Rattle.sl_model.specs.declared.schedule.Source.TheVariants.{Item}
 use Rattle.sl_model.specs.declared.problem.Rule.{Rule}
-use Rattle.sl_model.specs.declared.problem.Rule.TheVariants.{L1, L2, L3, L4, L5, L6, L7}
+use Rattle.sl_model.specs.declared.problem.Rule.TheVariants.{L1, L2, L3, L4, L5, L6}
 use Rattle.sl_model.specs.Register.{same_reg, same_bool, bank_number}
 use Rattle.sl_model.specs.RegSets.{set_has, set_count}
 use Rattle.sl_model.specs.Source.{outputs, padded, item_at}
 use Rattle.sl_model.specs.Isa.{Isa}
 use Rattle.sl_model.specs.Body.{chosen, stands_in, same_source, all_differ}
 use Rattle.sl_model.specs.Lawful.{IsValid}
-use Rattle.sl_model.specs.Legal.{Problem, IsOf, IsLegalNext, IsLegalFrom, first_broken, keeps_l1, keeps_l2, keeps_l3, keeps_l4, keeps_l5, keeps_l6, keeps_l7, allowed_in, output_classes, suits_output, suits_readers, suits_finals, is_final_in, is_flags, numbers_below}
+use Rattle.sl_model.specs.Legal.{Problem, IsOf, IsLegalNext, IsLegalFrom, first_broken, keeps_l1, keeps_l2, keeps_l3, keeps_l4, keeps_l5, keeps_l6, allowed_in, output_classes, suits_output, suits_readers, suits_finals, is_final_in, is_flags, numbers_below}
 use Rattle.sl_model.specs.Space.{IsReducedNext, IsReducedFrom, is_free_output, is_final_output, is_tied_output}
-use Rattle.legal_space.specs.Testable.{AreValid, IsTestable}
 use Rattle.legal_space.specs.Listing.{are_outputs_final, IsListable, own_choice}
 use Rattle.legal_space.proofs.Members.{Has, from-numbers, has-numbers}
 

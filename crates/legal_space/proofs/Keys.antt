@@ -1,7 +1,6 @@
 -- The order of schedules: by the first choice in which they differ.
-use Rattle.std.proofs.Common.{◌≡◌, ℕ, ◌<◌, Bool, true, false, cond, eqb, nat_lt, List, [], ◌∷◌, ◌++◌, map, refl, sym, ap, ◌∙◌, subst, arith}
+use Rattle.std.proofs.Common.{◌≡◌, ℕ, ◌<◌, false, cond, eqb, nat_lt, List, [], ◌∷◌, ◌++◌, map, refl, ap, ◌∙◌, subst, arith}
 use Rattle.std.specs.Ordering.{nat_cmp, ordering_then, is_lt}
-use Rattle.std.specs.declared.cmp.Ordering.{Ordering}
 use Rattle.std.specs.declared.cmp.Ordering.TheVariants.{Less, Equal, Greater}
 use Rattle.std.specs.Cmp.Lexicographic.{slice_cmp}
 use Rattle.std.proofs.lemmas.Bool.{le-ltb, ne_eqb, eq-eqb, cond-false, cond-true}
@@ -11,7 +10,7 @@ use Rattle.sl_model.specs.Body.{chosen}
 use Rattle.sl_model.specs.Legal.{Problem, keeps_l6, numbers_below}
 use Rattle.sl_model.specs.Space.{choice_key, schedule_key, comes_before}
 use Rattle.legal_space.specs.Listing.{own_choice, choices_below, own_choices, all_choices}
-use Rattle.legal_space.proofs.Members.{Has, Ordered, ordered-map, ordered-flat_map, ordered-numbers, ordered-filter, from-map, from-filter}
+use Rattle.legal_space.proofs.Members.{Ordered, ordered-map, ordered-flat_map, ordered-numbers, ordered-filter, from-map, from-filter}
 
 nat_cmp-same : (n : ℕ) → nat_cmp n n ≡ Equal
 nat_cmp-same n =

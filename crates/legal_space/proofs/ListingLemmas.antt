@@ -1,22 +1,22 @@
 -- Which schedules are listed, and in which order.
-use Rattle.std.proofs.Common.{◌≡◌, ℕ, zero, suc, ◌+◌, ◌-◌, ◌^◌, ◌<◌, ◌≤◌, ◌⊎◌, Bool, true, false, ◌&&◌, ◌||◌, not, eqb, List, [], ◌∷◌, ◌++◌, reverse, map, filter, length, drop, get_or, Option, None, Some, is_some, cond, if◌then◌else◌, inl, inr, refl, sym, ap, ◌∙◌, subst, ⊎_elim, true≢false, append_assoc, add-one, nat_lt, arith}
-use Rattle.std.specs.List.{list_all, list_any, flat_map}
+use Rattle.std.proofs.Common.{◌≡◌, ℕ, zero, suc, ◌+◌, ◌-◌, ◌^◌, ◌<◌, ◌≤◌, Bool, true, false, ◌&&◌, ◌||◌, eqb, List, [], ◌∷◌, ◌++◌, reverse, map, filter, length, drop, get_or, Option, None, Some, is_some, cond, if◌then◌else◌, inl, refl, sym, ap, ◌∙◌, subst, ⊎_elim, true≢false, append_assoc, add-one, nat_lt, arith}
+use Rattle.std.specs.List.{list_all, flat_map}
 use Rattle.std.proofs.lemmas.List.{append-nil, reverse-append, reverse-reverse, map-append, drop_more, drop_all}
 use Rattle.std.proofs.lemmas.List.Elements.{filter-append}
 use Rattle.std.proofs.lemmas.List.Concat.{flat_map-append}
-use Rattle.std.proofs.lemmas.Bool.{cases_Bool, and_parts, and_from, lt-ltb, or_left, or_right, or_cases, eqb-true, eq-eqb, not-true, both_ways, cases_lt, false_from_ne_true, cond-true, cond-false}
+use Rattle.std.proofs.lemmas.Bool.{cases_Bool, and_from, lt-ltb, or_cases, eqb-true, eq-eqb, not-true, both_ways, cases_lt, false_from_ne_true}
 use Rattle.sl_model.specs.declared.schedule.Choice.{Choice}
 use Rattle.sl_model.specs.declared.problem.Rule.{Rule}
 use Rattle.sl_model.specs.Isa.{Isa}
 use Rattle.sl_model.specs.Body.{is_placed, is_full, stands_in}
 use Rattle.sl_model.specs.Cycles.{row_of}
-use Rattle.sl_model.specs.Legal.{Problem, IsOf, IsLegalNext, IsLegalFrom, IsFullLegal, first_broken, keeps_l1, keeps_l6, numbers_below}
+use Rattle.sl_model.specs.Legal.{Problem, IsOf, IsLegalNext, IsLegalFrom, first_broken, keeps_l6, numbers_below}
 use Rattle.sl_model.specs.Space.{InSpace, IsBest, stalls_of, comes_before}
 use Rattle.legal_space.specs.Listing.{IsListable, is_known, own_choice, choices_below, own_choices, all_choices, listed, Found, better, best_of}
 use Rattle.legal_space.proofs.PlacedLemmas.{is_placed-any, any_placed}
 use Rattle.legal_space.proofs.Members.{Has, Ordered, has-all, has-filter, from-filter, has-flat_map, from-flat_map, ordered-flat_map, has-map, from-map, has-numbers, from-numbers, length-numbers}
 use Rattle.legal_space.proofs.Keys.{Before, NotBehind, branch-before, ordered-choices}
-use Rattle.legal_space.proofs.Forced.{KeepsRules, keeps_rules, standing-passes, known-item, forced-choice, own-of, forced-reduced_from}
+use Rattle.legal_space.proofs.Forced.{keeps_rules, standing-passes, known-item, forced-choice, own-of, forced-reduced_from}
 use Rattle.legal_space.proofs.FoundLemmas.{IsOutcome, best_of-outcome, best_of-append}
 use Rattle.legal_space.proofs.Units.{no_bit_past}
 

@@ -91,16 +91,3 @@ all_differ-cons r regs among is = ap (λ b. not b && all_differ regs) (placed_am
 pub all_differ-nil : all_differ [] ≡ true
 unfolding all_differ
 all_differ-nil = refl
-
--- a register at the first place, and at a later one
-pub place_from-here : (k : ℕ) (r out : Reg) (regs : List Reg) → same_reg out r ≡ true → place_from k r (out ∷ regs) ≡ Some k
-unfolding place_from
-place_from-here k r out regs same = ap (λ b. cond b (Some k) (place_from (k + 1) r regs)) same
-
-pub place_from-later : (k : ℕ) (r out : Reg) (regs : List Reg) → same_reg out r ≡ false → place_from k r (out ∷ regs) ≡ place_from (k + 1) r regs
-unfolding place_from
-place_from-later k r out regs other = ap (λ b. cond b (Some k) (place_from (k + 1) r regs)) other
-
-pub place_from-nil : (k : ℕ) (r : Reg) → place_from k r [] ≡ None
-unfolding place_from
-place_from-nil k r = refl

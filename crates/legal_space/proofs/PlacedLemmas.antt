@@ -1,11 +1,11 @@
 -- What the choices made so far have done, said by std's words on lists.
-use Rattle.std.proofs.Common.{◌≡◌, ℕ, ◌+◌, ◌<◌, ◌≤◌, ◌==◌, ◌||◌, true, false, List, [], ◌∷◌, slice_get, Option, None, Some, option_map, option_and_then, is_some, cond, reverse, if◌then◌else◌, refl, sym, ap, ◌∙◌}
+use Rattle.std.proofs.Common.{◌≡◌, ℕ, ◌==◌, ◌||◌, true, false, List, [], ◌∷◌, slice_get, Option, None, Some, option_map, option_and_then, is_some, cond, reverse, refl, sym, ap, ◌∙◌}
 use Rattle.std.specs.List.{find, list_any}
 use Rattle.std.proofs.lemmas.List.Sorted.{list_any-IsPermutation, IsPermutation-reverse}
 use Rattle.sl_model.specs.declared.register.Reg.{Reg}
 use Rattle.sl_model.specs.declared.schedule.Choice.{Choice}
 use Rattle.sl_model.specs.declared.schedule.Source.{Source}
-use Rattle.sl_model.specs.declared.schedule.Source.TheVariants.{Entry, Item}
+use Rattle.sl_model.specs.declared.schedule.Source.TheVariants.{Entry}
 use Rattle.sl_model.specs.Source.{place_from, output_or}
 use Rattle.sl_model.specs.Body.{chosen, is_placed, placed_in, held}
 

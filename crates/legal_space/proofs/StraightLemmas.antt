@@ -10,7 +10,7 @@ use Rattle.sl_model.specs.declared.schedule.Source.{Source}
 use Rattle.sl_model.specs.Source.{outputs, operands, item_at, place_from, output_or, source_of, list_sources}
 use Rattle.sl_model.specs.Cycles.{CostTable}
 use Rattle.sl_model.specs.Legal.{numbers_below, written, sources_in, straight_problem}
-use Rattle.legal_space.specs.Timed.{is_known}
+use Rattle.legal_space.specs.Timed.{is_known_source}
 
 pub numbers-none : numbers_below 0 ≡ []
 unfolding numbers_below
@@ -35,34 +35,34 @@ pub written-cons : (i : Instr) (items : List Instr) → written (i ∷ items) �
 written-cons i items = filter-append (λ r. not r.symbolic) (outputs i) (flat_map outputs items)
 
 -- an output of a known item, or else a known source
-known-or : (r : Reg) (items item : ℕ) (place : Option ℕ) (earlier : Source) → item < items → is_known items earlier ≡ true → is_known items (output_or item place earlier) ≡ true
+known-or : (r : Reg) (items item : ℕ) (place : Option ℕ) (earlier : Source) → item < items → is_known_source items earlier ≡ true → is_known_source items (output_or item place earlier) ≡ true
 known-or r items item None earlier below known = known
 known-or r items item (Some place) earlier below known = lt-ltb item items below
 
 -- the source of a register is an item among those above, or the register at first
-source-known : (r : Reg) (items : ℕ) (above : List Instr) → length above ≤ items → is_known items (source_of r above) ≡ true
+source-known : (r : Reg) (items : ℕ) (above : List Instr) → length above ≤ items → is_known_source items (source_of r above) ≡ true
 unfolding source_of
 source-known r items [] few = refl
 source-known r items (i ∷ above) few = known-or r items (length above) (place_from 0 r (outputs i)) (source_of r above) (omega arith) (source-known r items above (omega arith))
 
 -- each source of an item's operands is known
-sources-known : (rs : List Reg) (items : ℕ) (above : List Instr) → length above ≤ items → list_all (is_known items) (map (λ r. source_of r above) rs) ≡ true
+sources-known : (rs : List Reg) (items : ℕ) (above : List Instr) → length above ≤ items → list_all (is_known_source items) (map (λ r. source_of r above) rs) ≡ true
 sources-known [] items above few = refl
 sources-known (r ∷ rs) items above few = rw (source-known r items above few) (sources-known rs items above few)
 
-list_sources-known : (items : List Instr) (p : ℕ) → list_all (is_known (length items)) (list_sources items p) ≡ true
+list_sources-known : (items : List Instr) (p : ℕ) → list_all (is_known_source (length items)) (list_sources items p) ≡ true
 unfolding list_sources
 list_sources-known items p =
     sources-known (operands (item_at items p)) (length items) (reverse (take p items)) (omega (arith, length-reverse (take p items), length-take p items))
 
 -- what holds of the sources of each item, and of none, holds of those of every number
-known_at : (items : List Instr) (numbers : List ℕ) (item : ℕ) → list_all (is_known (length items)) (get_or (map (list_sources items) numbers) item []) ≡ true
+known_at : (items : List Instr) (numbers : List ℕ) (item : ℕ) → list_all (is_known_source (length items)) (get_or (map (list_sources items) numbers) item []) ≡ true
 known_at items [] item = refl
 known_at items (n ∷ numbers) zero = list_sources-known items n
 known_at items (n ∷ numbers) (suc item) = known_at items numbers item
 
 -- in a straight problem each source is known
-pub straight-known : (items : List Instr) (live free : List Reg) (costs : CostTable) (item : ℕ) → IsTrue (list_all (is_known (length items)) (sources_in (straight_problem items live free costs) item))
+pub straight-known : (items : List Instr) (live free : List Reg) (costs : CostTable) (item : ℕ) → IsTrue (list_all (is_known_source (length items)) (sources_in (straight_problem items live free costs) item))
 straight-known items live free costs item = known_at items (numbers_below (length items)) item
 
 -- a list of few sources behind others that have few

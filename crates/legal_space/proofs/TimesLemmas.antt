@@ -1,15 +1,16 @@
 -- A schedule issued choice by choice: when operands are ready, the latest cycle of each item, and one more choice.
-use Rattle.std.proofs.Common.{◌≡◌, ◌≢◌, ℕ, zero, suc, ◌+◌, ◌*◌, ◌<◌, ◌≤◌, true, false, eqb, List, [], ◌∷◌, ◌++◌, length, take, drop, reverse, replicate, set, get_or, max, nat_lt, EachIndex, refl, sym, ◌∙◌, ap, ap₂, subst, ⊎_elim, arith}
-use Rattle.std.proofs.lemmas.Bool.{cases_Bool, eqb-true, eqb-false, ltb-true}
+use Rattle.std.proofs.Common.{◌≡◌, ◌≢◌, ℕ, zero, suc, ◌+◌, ◌*◌, ◌<◌, ◌≤◌, true, false, eqb, List, [], ◌∷◌, length, take, drop, reverse, replicate, set, get_or, max, nat_lt, nat_le, ◌&&◌, IsTrue, EachIndex, refl, sym, ◌∙◌, ap, ap₂, subst, ⊎_elim, arith}
+use Rattle.std.proofs.lemmas.Bool.{cases_Bool, eqb-true, eqb-false, ltb-true, leb-true, and_parts}
 use Rattle.std.proofs.lemmas.List.{drop_all, drop_more, take_more, reverse-append, length-set, length-replicate, get_or-set_same, get_or-set_other, get_or-replicate}
 use Rattle.std.specs.List.{list_all}
 use Rattle.std.proofs.lemmas.List.Folds.{list_all_at}
 use Rattle.sl_model.specs.declared.schedule.Choice.{Choice}
 use Rattle.sl_model.specs.declared.schedule.Source.{Source}
-use Rattle.sl_model.specs.Cycles.{CostTable, Issued, issue, push_of, timed_from, cycle_of, row_of, ready_at, ready_from, next_cycle}
-use Rattle.issue_cost.specs.Timeline.{IsFreeBy}
-use Rattle.issue_cost.proofs.IssueRule.{IsFreeBy-weaken}
+use Rattle.sl_model.specs.Cycles.{CostTable, Issued, timed_from, cycle_of, row_of, ready_at, ready_from, next_cycle}
+use Rattle.sl_model.specs.Legal.{Problem, sources_in}
 use Rattle.legal_space.specs.Above.{HasCycles}
+use Rattle.legal_space.specs.Listing.{is_known, are_known_sources}
+use Rattle.legal_space.specs.Timed.{is_known_source, HasKnownSources}
 
 -- what one operand waits for and what those behind it wait for, taken one after the other
 max-swap : (now ready rest : ℕ) → max (max now ready) rest ≡ max ready (max now rest)
@@ -81,11 +82,6 @@ early-more cycles next item cycle k early within soon stored = λ q inside.
     omega arith)
     (cases_Bool (eqb item q))
 
--- with one more item all is free at most 512 cycles later
-pub free-more : (k : ℕ) (i : Issued) (done : List Issued) → IsFreeBy (512 * k) done → i.cycle ≤ 512 * k + 255 → i.busy ≤ 255 → IsFreeBy (512 * (k + 1)) (i ∷ done)
-free-more k i done free soon brief =
-    (omega arith, omega arith, IsFreeBy-weaken (512 * k) (512 * (k + 1)) done (omega arith) free)
-
 -- what is issued for a choice whose operands are ready at a cycle
 abbrev pub next_issued : CostTable → Choice → ℕ → Issued
 next_issued costs c cycle = record { unit = c.unit; busy = (row_of costs c.item).busy; cycle = cycle }
@@ -122,3 +118,30 @@ item-known items schedule k d known within =
     let unknown : list_all (λ c. nat_lt c.item items) schedule ≡ false = list_all_at (λ c. nat_lt c.item items) schedule k d within test in
     cc)
     (cases_Bool (nat_lt (get_or schedule k d).item items))
+
+-- the sources of an item are known where those of all are
+known-at : (count : ℕ) (sources : List (List Source)) (p : ℕ) → list_all (are_known_sources count) sources ≡ true → are_known_sources count (get_or sources p []) ≡ true
+known-at count [] p all = refl
+known-at count (s ∷ sources) zero all = (and_parts (are_known_sources count s) (list_all (are_known_sources count) sources) all).0
+known-at count (s ∷ sources) (suc p) all = known-at count sources p (and_parts (are_known_sources count s) (list_all (are_known_sources count) sources) all).1
+
+pub known_sources : (problem : Problem) → list_all (are_known_sources (length problem.items)) problem.sources ≡ true → HasKnownSources problem
+known_sources problem all =
+    let at = λ (item : ℕ). and_parts (nat_le (length (sources_in problem item)) 4) (list_all (is_known_source (length problem.items)) (sources_in problem item)) (known-at (length problem.items) problem.sources item all) in
+    record {
+      few = λ item. let few : length (sources_in problem item) ≤ 4 = leb-true (length (sources_in problem item)) 4 (at item).0 in omega arith;
+      known = λ item. (at item).1;
+    }
+
+-- known choices are of items of the problem, and of units below 16
+pub known_items : (problem : Problem) (choices : List Choice) → list_all (is_known problem) choices ≡ true → IsTrue (list_all (λ c. nat_lt c.item (length problem.items)) choices)
+known_items problem [] all = refl
+known_items problem (c ∷ choices) all =
+    let parts = and_parts (is_known problem c) (list_all (is_known problem) choices) all in
+    ap₂ (λ a b. a && b) (and_parts (nat_lt c.item (length problem.items)) (nat_lt c.unit 16) parts.0).0 (known_items problem choices parts.1)
+
+pub known_units : (problem : Problem) (choices : List Choice) → list_all (is_known problem) choices ≡ true → IsTrue (list_all (λ c. nat_lt c.unit 16) choices)
+known_units problem [] all = refl
+known_units problem (c ∷ choices) all =
+    let parts = and_parts (is_known problem c) (list_all (is_known problem) choices) all in
+    ap₂ (λ a b. a && b) (and_parts (nat_lt c.item (length problem.items)) (nat_lt c.unit 16) parts.0).1 (known_units problem choices parts.1)

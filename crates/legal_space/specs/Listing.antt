@@ -1,26 +1,21 @@
 -- Problems whose schedules can be listed, and the list.
-use Rattle.std.specs.Prelude.{ℕ, ◌≡◌, ◌≤◌, Bool, true, ◌&&◌, nat_lt, nat_le, zero, suc, map, filter, List, [], ◌∷◌, reverse, length, Option, None, Some, is_some, if◌then◌else◌}
+use Rattle.std.specs.Prelude.{ℕ, ◌≡◌, ◌≤◌, Bool, true, ◌&&◌, nat_lt, nat_le, zero, suc, map, filter, List, [], ◌∷◌, reverse, length, is_some, if◌then◌else◌}
 use Rattle.std.specs.List.{list_all, flat_map, enumerate_from}
-use Rattle.sl_model.specs.declared.register.Reg.{Reg}
 use Rattle.sl_model.specs.declared.schedule.Choice.{Choice}
 use Rattle.sl_model.specs.declared.schedule.Source.{Source}
-use Rattle.sl_model.specs.declared.schedule.Source.TheVariants.{Entry, Item}
+use Rattle.sl_model.specs.declared.schedule.Source.TheVariants.{Item}
 use Rattle.sl_model.specs.Source.{outputs, item_at}
 use Rattle.sl_model.specs.Isa.{Isa}
 use Rattle.sl_model.specs.Body.{is_full}
 use Rattle.sl_model.specs.Legal.{Problem, is_final_in, first_broken, keeps_l6, numbers_below}
 use Rattle.sl_model.specs.Space.{stalls_of}
 use Rattle.legal_space.specs.Testable.{IsTestable}
+use Rattle.legal_space.specs.Timed.{is_known_source}
 
 -- Is each output of an item final, in its own register?
 abbrev pub are_outputs_final : Problem → ℕ → Bool
 are_outputs_final problem p =
     list_all (λ x. is_final_in problem x.1 (Item p x.0)) (enumerate_from 0 (outputs (item_at problem.items p)))
-
--- Is a source what a register held before the first item, or an output of one of so many items?
-abbrev pub is_known_source : ℕ → Source → Bool
-is_known_source count (Entry r) = true
-is_known_source count (Item item place) = nat_lt item count
 
 -- Are there at most four sources, and all known?
 abbrev pub are_known_sources : ℕ → List Source → Bool

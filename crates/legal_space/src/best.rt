@@ -1,10 +1,11 @@
 //! The best of the schedules that were offered.
 ghost use Rattle.std.specs.Prelude.{◌≡◌, ◌+◌, ◌<◌, ◌≤◌, true, [], length, OnOk};
 ghost use Rattle.std.specs.List.{list_all};
-ghost use Rattle.legal_space.specs.Listing.{better, is_known, are_known_sources};
+ghost use Rattle.legal_space.specs.Listing.{better, is_known};
+ghost use Rattle.legal_space.specs.Timed.{HasKnownSources};
 
 use crate::problem::Problem;
-use crate::stalls::stalls_of;
+use crate::times::times_of;
 use sl_base::NoMemory;
 use sl_model::schedule::Choice;
 use std::alloc::Global;
@@ -48,19 +49,16 @@ impl Best {
     ) -> Result<(), NoMemory>
         requires few { length schedule.now ≤ 8 }
         requires rows { length problem.now.costs.rows ≡ length problem.now.items }
-        requires sources { list_all (are_known_sources (length problem.now.items)) problem.now.sources ≡ true }
+        requires sources { HasKnownSources problem.now }
         requires known { list_all (is_known problem.now) schedule.now ≡ true }
         ensures { OnOk result (self.new ≡ better problem.now self.old schedule.now) }
     {
-        let stalls = u64::from(stalls_of(alloc, problem, schedule)?);
+        let stalls = u64::from(times_of(alloc, problem, schedule)?.stalls);
         if stalls >= self.limit {
             return Ok(());
         }
-        let Ok(kept) = Vec::from_slice(alloc, schedule) else {
-            return Err(NoMemory);
-        };
+        self.schedule = Vec::from_slice(alloc, schedule)?;
         self.limit = stalls;
-        self.schedule = kept;
         Ok(())
     }
 }

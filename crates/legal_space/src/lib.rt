@@ -2,6 +2,7 @@
 #![tactic(auto)]
 
 pub use listing::best_schedule;
+pub use placed::given;
 pub use problem::Problem;
 pub use sl_model::problem::Rule;
 pub use sl_model::schedule::{Choice, Source};
@@ -17,9 +18,7 @@ mod outputs;
 mod placed;
 mod problem;
 mod registers;
-pub mod sets;
 pub mod sources;
-mod stalls;
 mod straight;
 mod test;
 mod times;

@@ -16,7 +16,7 @@ use crate::test::{first_broken, has_unit};
 use sl_base::NoMemory;
 use sl_isa::Arch;
 use sl_model::schedule::Choice;
-use std::alloc::Global;
+use std::alloc::{AllocError, Global};
 
 /// How many units a class may have.
 const UNITS: u8 = 16;
@@ -36,9 +36,7 @@ pub fn best_schedule<A: Arch>(
         (λ best. IsBest A.isa problem.now most best.items)) }
 {
     let choices = all_choices(alloc, problem)?;
-    let Ok(mut done) = Vec::with_capacity(alloc, problem.len()) else {
-        return Err(NoMemory);
-    };
+    let mut done = Vec::with_capacity(alloc, problem.len())?;
     let mut best = Best::none(alloc, most);
     extend(
         arch,
@@ -130,9 +128,9 @@ fn push_choices(
         if !has_unit(units, unit) {
             continue;
         }
-        if choices.push(Choice { item, unit, outs }).is_err() {
-            return Err(NoMemory);
-        }
+        choices
+            .push(Choice { item, unit, outs })
+            .map_err(AllocError::from)?;
     }
     Ok(())
 }

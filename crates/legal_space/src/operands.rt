@@ -8,8 +8,9 @@ ghost use Rattle.legal_space.specs.Testable.{IsTestable};
 
 use crate::placed::{given, is_still_held};
 use crate::problem::Problem;
-use crate::registers::{same_reg, set_has};
+use crate::registers::same_reg;
 use sl_isa::Arch;
+use sl_isa::sets::set_has;
 use sl_model::instruction::{FormInfo, Instr};
 use sl_model::register::{Reg, RegSet};
 use sl_model::schedule::{Choice, Source};

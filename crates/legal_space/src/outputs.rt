@@ -11,8 +11,9 @@ ghost use Rattle.legal_space.specs.Testable.{IsTestable};
 use crate::operands::{info_of, item_of};
 use crate::placed::{held, is_output, is_placed, same_source};
 use crate::problem::Problem;
-use crate::registers::{are_alike, same_reg, set_has};
+use crate::registers::{are_alike, same_reg};
 use sl_isa::Arch;
+use sl_isa::sets::set_has;
 use sl_model::register::{Reg, RegSet};
 use sl_model::schedule::{Choice, Source};
 

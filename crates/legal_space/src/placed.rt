@@ -7,6 +7,7 @@ ghost use Rattle.sl_model.specs.Source.{place_from};
 ghost use Rattle.sl_model.specs.Body.{chosen, is_placed, held, placed_in, given, same_source, holds_in, is_still_held};
 
 use crate::registers::same_reg;
+use crate::sources::place_among;
 use sl_model::register::Reg;
 use sl_model::schedule::{Choice, Source};
 
@@ -84,24 +85,6 @@ fn place_of(choice: &Choice, reg: Reg) -> Option<u8>
     ensures { result ≡ place_from 0 reg (chosen choice.now) }
 {
     place_among(&choice.outs, reg)
-}
-
-// The place of a register among outputs, at most 3.
-fn place_among(outs: &[Option<Reg>], reg: Reg) -> Option<u8>
-    requires { length outs.now ≤ 3 }
-    ensures { result ≡ place_from 0 reg (filter_map (λ r. r) outs.now) }
-{
-    let mut place = 0;
-    for out in outs {
-        let Some(out) = out else {
-            continue;
-        };
-        if same_reg(*out, reg) {
-            return Some(place);
-        }
-        place += 1;
-    }
-    None
 }
 
 /// The register in which an output of an item was placed.

@@ -1,3 +1,4 @@
+//! A problem of scheduling as a value.
 ghost use Rattle.std.specs.Prelude.{◌≡◌, ◌<◌, map, length};
 ghost use Rattle.sl_model.specs.Legal.{sources_in, allowed_in};
 

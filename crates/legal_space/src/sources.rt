@@ -6,21 +6,14 @@ ghost use Rattle.sl_model.specs.Register.{same_reg};
 ghost use Rattle.sl_model.specs.Source.{outputs, place_from, source_of};
 ghost use Rattle.legal_space.specs.Above.{IsAbove};
 
+use crate::registers::same_reg;
 use sl_model::instruction::Instr;
 use sl_model::register::Reg;
 use sl_model::schedule::Source;
 
-/// Are these two names of one register?
-#[tactic(auto, unfolding(sl_model::specs::Register::same_reg))]
-fn is_same(a: Reg, b: Reg) -> bool
-    ensures { result ≡ same_reg a b }
-{
-    a == b
-}
-
 /// At which place a register stands among outputs, at most 3 with empty ones, which don't count.
 #[tactic(auto, unfolding(sl_model::specs::Source::place_from))]
-fn place_among(outputs: &[Option<Reg>], reg: Reg) -> Option<u8>
+pub fn place_among(outputs: &[Option<Reg>], reg: Reg) -> Option<u8>
     requires { length outputs.now ≤ 3 }
     ensures { result ≡ place_from 0 reg (filter_map (λ r. r) outputs.now) }
 {
@@ -29,7 +22,7 @@ fn place_among(outputs: &[Option<Reg>], reg: Reg) -> Option<u8>
         let Some(output) = output else {
             continue;
         };
-        if is_same(*output, reg) {
+        if same_reg(*output, reg) {
             return Some(place);
         }
         place += 1;

@@ -8,9 +8,10 @@ ghost use Rattle.sl_model.specs.Legal.{numbers_below, written, straight_problem}
 ghost use Rattle.legal_space.specs.Timed.{HasKnownSources};
 
 use crate::problem::Problem;
-use crate::sets::set_of;
 use crate::sources::source_of;
-use issue_cost::{Costs, NoMemory};
+use issue_cost::Costs;
+use sl_base::NoMemory;
+use sl_isa::sets::set_of;
 use sl_model::instruction::Instr;
 use sl_model::register::{Reg, RegSet};
 use sl_model::schedule::Source;

@@ -7,10 +7,11 @@ ghost use Rattle.sl_model.specs.Cycles.{Issued, ready_at, ready_from, timed, cyc
 ghost use Rattle.sl_model.specs.Legal.{sources_in};
 ghost use Rattle.sl_model.specs.Space.{stalls_of};
 ghost use Rattle.legal_space.specs.Above.{HasCycles};
-ghost use Rattle.legal_space.specs.Timed.{is_known, HasKnownSources};
+ghost use Rattle.legal_space.specs.Timed.{is_known_source, HasKnownSources};
 
 use crate::problem::Problem;
-use issue_cost::{Costs, Issue, NoMemory};
+use issue_cost::{Costs, Issue};
+use sl_base::NoMemory;
 use sl_model::schedule::{Choice, Source};
 use std::alloc::{AllocError, Global};
 
@@ -45,8 +46,6 @@ pub fn times_of(alloc: Global, problem: &Problem, schedule: &[Choice]) -> Result
     for choice in schedule {
         let sources = problem.sources_of(choice.item);
         let ready = ready_among(costs, &latest, choice.item, sources);
-        // At most 255, so that no cycle is past its type.
-        let _busy = costs.busy(choice.item);
         let cycle = issue.push(costs, choice.item, choice.unit, ready);
         latest[usize::from(choice.item)] = cycle;
         cycles.push(cycle).map_err(AllocError::from)?;
@@ -65,7 +64,7 @@ fn ready_among(costs: &Costs, cycles: &[u32], item: u16, sources: &[Source]) -> 
     requires item { item < length cycles.now }
     requires rows { length costs.now.rows ≡ length cycles.now }
     requires few { length sources.now ≤ 256 }
-    requires known { IsTrue (list_all (is_known (length cycles.now)) sources.now) }
+    requires known { IsTrue (list_all (is_known_source (length cycles.now)) sources.now) }
     requires early { EachIndex cycles.now (λ q. slice_index cycles.now q ≤ 2 ^ 29) }
     ensures ready { (choices : List Choice) (done : List Issued) →
         HasCycles cycles.now choices done → result ≡ ready_from costs.now choices done item 0 sources.now }
@@ -82,7 +81,7 @@ fn ready_among(costs: &Costs, cycles: &[u32], item: u16, sources: &[Source]) -> 
 fn ready_at(costs: &Costs, cycles: &[u32], item: u16, operand: u8, source: Source) -> u32
     requires item { item < length cycles.now }
     requires rows { length costs.now.rows ≡ length cycles.now }
-    requires known { IsTrue (is_known (length cycles.now) source) }
+    requires known { IsTrue (is_known_source (length cycles.now) source) }
     requires early { EachIndex cycles.now (λ q. slice_index cycles.now q ≤ 2 ^ 29) }
     ensures ready { (choices : List Choice) (done : List Issued) →
         HasCycles cycles.now choices done → result ≡ ready_at costs.now choices done item operand source }

@@ -4,3 +4,4 @@ pub mod Undo
 pub mod Fitting
 pub mod Stepping
 pub mod Wrapped
+pub mod FewLemmas

@@ -1,5 +1,5 @@
-//! A small instruction set: the three forms that are read, and a few with numbers, accesses and flags, which show that what the
-//! laws of architectures ask for can be met.
+//! A small instruction set of eight forms: sums, differences, a shift, a load and a store. It shows that what the laws of
+//! architectures ask for can be met.
 ghost use Rattle.std.specs.Prelude.{◌≡◌, ◌%◌, ◌^◌, ◌<◌, ◌∷◌, [], pos, slice_index};
 ghost use Rattle.sl_isa.specs.Arch.{padded_values};
 ghost use Rattle.sl_model.specs.Lawful.{IsValid};
@@ -165,7 +165,7 @@ fn one_value(value: u64) -> Outs
     }
 }
 
-#[tactic(auto, unfolding(crate::specs::FewForms::few_isa, crate::specs::FewForms::few_step), using(crate::specs::FewLaws::small_number, crate::specs::FewLaws::access_is, crate::specs::FewLaws::stored_is))]
+#[tactic(auto, unfolding(crate::specs::FewForms::few_isa, crate::specs::FewForms::few_step), using(crate::specs::FewLaws::small_number, crate::proofs::FewLemmas::access_is, crate::proofs::FewLemmas::stored_is))]
 impl Arch for FewForms {
     ghost isa = { few_isa };
 
@@ -330,7 +330,7 @@ fn exec_form(form: Form, number: u64, ins: &[u128], loaded: &[u8]) -> Outs
 
 // An example of each form: it reads x1, and x2 where it has a second operand, and writes x3; the
 // store moves x2 on.
-#[tactic(auto, using(crate::specs::FewLaws::example_valid))]
+#[tactic(auto, using(crate::proofs::FewLemmas::example_valid))]
 pub(crate) fn example(form: u16, number: u8) -> Instr
     requires known { form < 8 }
     requires small { number < 64 }

@@ -1,9 +1,9 @@
-ghost use Rattle.std.specs.Prelude.{◌≡◌, ◌==◌, ◌<◌, reverse, find, length, slice_get, nat_lt, IsTrue, IfOk};
+//! A schedule as a list of instructions.
+ghost use Rattle.std.specs.Prelude.{◌≡◌, ◌<◌, reverse, length, slice_get, nat_lt, IsTrue, IfOk};
 ghost use Rattle.std.specs.List.{list_all, filter_map};
-ghost use Rattle.std.specs.Option.{option_copied};
 ghost use Rattle.sl_model.specs.State.{State};
 ghost use Rattle.sl_model.specs.Isa.{Isa};
-ghost use Rattle.sl_model.specs.Body.{chosen, placed_in, given, applied_item, applied, flow_of};
+ghost use Rattle.sl_model.specs.Body.{given, applied_item, applied, flow_of};
 ghost use Rattle.sl_model.specs.Lawful.{IsLawful};
 ghost use Rattle.sl_model.specs.Legal.{IsFullLegal, body_of};
 ghost use Rattle.sl_model.specs.Program.{TagsHoldOf};
@@ -11,7 +11,7 @@ ghost use Rattle.renamer.specs.Faithful.{IsSound};
 ghost use Rattle.renamer.specs.Outcome.{CarriesProblem};
 ghost use Rattle.renamer.specs.WellPosed.{AreValid, IsWellPosed};
 
-use legal_space::{Choice, Problem, Source};
+use legal_space::{Choice, Problem, Source, given};
 use sl_base::NoMemory;
 use sl_model::instruction::Instr;
 use sl_model::register::Reg;
@@ -71,42 +71,4 @@ fn operand(done: &[Choice], sources: &[Source], place: usize) -> Option<Reg>
         .iter()
         .filter_map(|source| given(done, *source))
         .nth(place)
-}
-
-// The register given to a source.
-fn given(done: &[Choice], source: Source) -> Option<Reg>
-    ensures { result ≡ given (reverse done.now) source }
-{
-    match source {
-        Source::Entry(reg) => Some(reg),
-        Source::Item { index, place } => placed_in(done, index, place),
-    }
-}
-
-// The register in which an output of an item was placed.
-fn placed_in(done: &[Choice], item: u16, place: u8) -> Option<Reg>
-    ensures { result ≡ placed_in (reverse done.now) item place }
-{
-    let Some(choice) = last_choice(done, item) else {
-        return None;
-    };
-    output(choice, place)
-}
-
-// The last choice of an item.
-fn last_choice(done: &[Choice], item: u16) -> Option<&Choice>
-    ensures { option_copied result ≡ find (λ c. c.item == item) (reverse done.now) }
-{
-    done.iter().rev().find(|choice| choice.item == item)
-}
-
-// The register chosen for the output at a place.
-fn output(choice: &Choice, place: u8) -> Option<Reg>
-    ensures { result ≡ slice_get (chosen choice.now) place }
-{
-    choice
-        .outs
-        .iter()
-        .filter_map(|out| *out)
-        .nth(usize::from(place))
 }

@@ -55,6 +55,7 @@ abbrev pub with_flags : Bool → ℕ → ℕ → ℕ → ℕ → List ℕ
 with_flags false bits x y carry = sum bits x y carry ∷ []
 with_flags true bits x y carry = sum bits x y carry ∷ sum_flags bits x y carry ∷ []
 
+-- two numbers bit by bit, of so many bits
 abbrev pub bitwise : Logic → ℕ → ℕ → ℕ → ℕ
 bitwise logic.And bits x y = bit_and x y
 bitwise logic.Orr bits x y = bit_or x y

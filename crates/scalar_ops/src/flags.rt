@@ -12,24 +12,28 @@ pub(crate) fn one_if(holds: bool) -> u128
     if holds { 1 } else { 0 }
 }
 
+// Is the flag N set?
 fn flag_n(flags: u128) -> bool
     ensures { result ≡ spec.flag_n flags }
 {
     flags / 8 % 2 == 1
 }
 
+// Is the flag Z set?
 fn flag_z(flags: u128) -> bool
     ensures { result ≡ spec.flag_z flags }
 {
     flags / 4 % 2 == 1
 }
 
+// Is the flag C set?
 pub(crate) fn flag_c(flags: u128) -> bool
     ensures { result ≡ spec.flag_c flags }
 {
     flags / 2 % 2 == 1
 }
 
+// Is the flag V set?
 fn flag_v(flags: u128) -> bool
     ensures { result ≡ spec.flag_v flags }
 {
@@ -82,11 +86,18 @@ fn is_higher(flags: u128) -> bool
     if flag_c(flags) { !flag_z(flags) } else { false }
 }
 
+// Whether N and V are the same: greater or equal, signed.
+fn is_at_least(flags: u128) -> bool
+    ensures { result ≡ spec.same (spec.flag_n flags) (spec.flag_v flags) }
+{
+    same(flag_n(flags), flag_v(flags))
+}
+
 // Whether N and V are the same and Z is not set: greater, signed.
 fn is_greater(flags: u128) -> bool
     ensures { result ≡ if spec.same (spec.flag_n flags) (spec.flag_v flags) then not (spec.flag_z flags) else false }
 {
-    if same(flag_n(flags), flag_v(flags)) {
+    if is_at_least(flags) {
         !flag_z(flags)
     } else {
         false
@@ -103,7 +114,7 @@ fn even_condition(kind: u128, flags: u128) -> bool
         2 => flag_n(flags),
         3 => flag_v(flags),
         4 => is_higher(flags),
-        5 => same(flag_n(flags), flag_v(flags)),
+        5 => is_at_least(flags),
         _ => is_greater(flags),
     }
 }

@@ -16,3 +16,13 @@ OnReadFault r P = MatchResult r (λ _. ⊤) (λ e. MatchReadErr e P (λ _. ⊤))
 -- Q of the limit, where the file is too long
 abbrev pub IfTooLong : {T : Type 0} → Result T ReadErr → (ℕ → Type 0) → Type 0
 IfTooLong r Q = MatchResult r (λ _. ⊤) (λ e. MatchReadErr e ⊤ Q)
+
+-- P, where it is another error
+abbrev pub MatchOtherErr : ReadErr → Type 0 → Type 0
+MatchOtherErr ReadFault P = ⊤
+MatchOtherErr (TooLong limit) P = P
+MatchOtherErr NoMemory P = P
+
+-- P, unless the file couldn't be read
+abbrev pub UnlessReadFault : {T : Type 0} → Result T ReadErr → Type 0 → Type 0
+UnlessReadFault r P = MatchResult r (λ _. P) (λ e. MatchOtherErr e P)

@@ -10,6 +10,7 @@ pub mod memory_sink;
 pub mod reading;
 pub mod sink;
 pub mod steps;
+pub mod texts;
 pub mod writing;
 
 pub use files::{ChooseErr, Failed, Files, NoMemory};
@@ -20,6 +21,7 @@ pub use memory_sink::MemSink;
 pub use reading::{ReadErr, read_all};
 pub use sink::Sink;
 pub use steps::{Steps, tick};
+pub use texts::{append, append_labelled};
 pub use writing::{WriteErr, write_all};
 
 #[cfg(test)]

@@ -1,7 +1,7 @@
 //! Reading a whole file.
 ghost use Rattle.std.specs.Prelude.{◌≡◌, ℕ, ◌<◌, ◌≤◌, true, false, List, length, Some, IfOk, OnOk, IsErr, vec_len};
 ghost use Rattle.sl_base.specs.Faults.{HasRisen};
-ghost use Rattle.sl_base.specs.Reading.{OnReadFault, IfTooLong};
+ghost use Rattle.sl_base.specs.Reading.{OnReadFault, UnlessReadFault, IfTooLong};
 
 use crate::files::{ChooseErr, Files};
 use std::alloc::Global;
@@ -24,7 +24,8 @@ pub enum ReadErr {
     NoMemory,
 }
 
-/// The bytes of the file `name`, which are at most `limit`. It reads on until a read gives nothing.
+/// The bytes of the file `name`, which are at most `limit`. It reads on until a read gives nothing. No fault of the
+/// files is passed over.
 pub fn read_all<F: Files>(
     alloc: Global,
     files: &mut F,
@@ -39,6 +40,7 @@ pub fn read_all<F: Files>(
     ensures ok_broken { OnOk result (F.broken files.new ≡ false) }
     ensures ok_given { IfOk result (λ v. F.given files.new ≡ vec_len v) }
     ensures ok_faults { OnOk result (F.faults files.new ≡ F.faults files.old) }
+    ensures other_faults { UnlessReadFault result (F.faults files.new ≡ F.faults files.old) }
     ensures fault_risen { OnReadFault result (HasRisen (F.faults files.old) (F.faults files.new)) }
     ensures fault_chosen { OnReadFault result (F.chosen files.new ≡ name.now) }
     ensures fault_broken { OnReadFault result (F.broken files.new ≡ true) }
@@ -66,6 +68,7 @@ fn read_rest<F: Files>(alloc: Global, files: &mut F, limit: u64) -> Result<Vec<u
     ensures ok_broken { OnOk result (F.broken files.new ≡ F.broken files.old) }
     ensures ok_given { IfOk result (λ v. F.given files.new ≡ vec_len v) }
     ensures ok_faults { OnOk result (F.faults files.new ≡ F.faults files.old) }
+    ensures other_faults { UnlessReadFault result (F.faults files.new ≡ F.faults files.old) }
     ensures fault_risen { OnReadFault result (HasRisen (F.faults files.old) (F.faults files.new)) }
     ensures fault_broken { OnReadFault result (F.broken files.new ≡ true) }
     ensures long_limit { IfTooLong result (λ n. n ≡ limit) }

@@ -1,8 +1,8 @@
 ghost use Rattle.std.specs.Prelude.{◌≡◌, ◌<◌};
 
 use crate::{
-    Gate, HostErr, HostFiles, HostOut, MemFiles, MemSink, NoGate, ReadErr, Steps, WriteErr,
-    read_all, tick, write_all,
+    Gate, HostErr, HostFiles, HostOut, MemFiles, MemSink, NoGate, ReadErr, Steps, WriteErr, append,
+    append_labelled, read_all, tick, write_all,
 };
 use std::alloc::{AllocError, Global};
 use std::marker::Brand;
@@ -81,6 +81,16 @@ fn short_writes_and_room(rt: HostRuntime) -> Result<(), Fail> {
         assert_eq!(rt; sink.taken().len() as u64, sent);
         assert!(rt; bytes.starts_with(sink.taken()));
     }
+    Ok(())
+}
+
+#[test]
+fn texts_are_added_behind_one_another(rt: HostRuntime) -> Result<(), Fail> {
+    let mut out = b"a".to_vec(rt.alloc())?;
+    assert_eq!(rt; append(&mut out, b"\n"), Ok(()));
+    assert_eq!(rt; append_labelled(&mut out, b" x=", 0), Ok(()));
+    assert_eq!(rt; append_labelled(&mut out, b"", u64::MAX), Ok(()));
+    assert_eq!(rt; out.as_slice(), b"a\n x=018446744073709551615".as_slice());
     Ok(())
 }
 

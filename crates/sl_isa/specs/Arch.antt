@@ -64,8 +64,9 @@ step_outputs (Sub number) counter = counter ∷ []
 step_outputs Subs counter = counter ∷ flags_register ∷ []
 step_outputs (Lsr by) counter = counter ∷ []
 
--- An instruction makes a step of a counter: it is one of the set without access, tag and marks, and stands on a line; it
--- reads the counter, and writes it, and the flags where it is `subs`; and the counter's new value is the stepped one.
+-- An instruction makes a step of a counter: it is one of the set without access and tag, neither early nor late, and stands
+-- on a line; it reads the counter, and writes it, and the flags where it is `subs`; and the counter's new value is the
+-- stepped one.
 pub record Steps (isa : Isa) (op : CounterOp) (counter : Reg) (line : ℕ) (i : Instr) : Type 0 where
   pub valid : IsValid isa i
   pub plain : (i.tag ≡ None) × (i.early ≡ false) × (i.late ≡ false) × (i.line ≡ line)
@@ -80,7 +81,8 @@ Answers (Ok i) wanted = wanted ≡ Ok i
 Answers (Err (error.Refused reason)) wanted = wanted ≡ Err reason
 Answers (Err error.NoMemory) wanted = Unit {0}
 
--- An instruction that was read from its words: it is one of the set, and has no line, tag and marks yet.
+-- An instruction that was read from its words: it is one of the set, has no line and no tag yet, and is neither
+-- early nor late.
 pub record IsRead (isa : Isa) (i : Instr) : Type 0 where
   pub valid : IsValid isa i
   pub plain : (i.tag ≡ None) × (i.early ≡ false) × (i.late ≡ false) × (i.line ≡ 0)

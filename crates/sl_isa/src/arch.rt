@@ -56,7 +56,7 @@ pub trait Arch {
         requires { IsValid isa instr.now }
         ensures { result ≡ isa.offset (op_of instr.now) };
 
-    /// The instruction that the tokens of a line spell, without line, tag and marks; the tokens hold no comments. Where
+    /// The instruction that the tokens of a line spell, without line and tag, and neither early nor late; the tokens hold no comments. Where
     /// they spell none, the answer is the first reason for it.
     fn read_form(&self, alloc: Global, tokens: &[Token<'_>]) -> Result<Instr, FormErr>
         ensures { Answers result (reads (map token_value tokens.now)) };
@@ -83,7 +83,7 @@ pub trait Arch {
         ensures values { result.regs ≡ padded_values 3 (isa.values (op_of instr.now) ins.now loaded.now) }
         ensures stored { result.bytes ≡ padded_values 32 (stored_by isa instr.now ins.now) };
 
-    /// The instruction that makes a step of a loop's counter, on a line, without tag and marks.
+    /// The instruction that makes a step of a loop's counter, on a line, without tag, and neither early nor late.
     fn counter_op(&self, op: CounterOp, counter: Reg, line: u32) -> Instr
         requires counts { can_count isa.name counter ≡ true }
         requires step { IsStep op }

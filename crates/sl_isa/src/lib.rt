@@ -4,6 +4,7 @@
 pub mod arch;
 pub mod meaning;
 pub mod reasons;
+pub mod sets;
 pub mod symbols;
 
 pub use arch::{Arch, CounterOp};

@@ -1,4 +1,5 @@
--- What a body of items computes, registers aside; and what a list of choices makes of it.
+-- What a body of items computes, registers aside; and what a list of choices makes of it. Source: the data-flow graph of
+-- SLOTHY (TCHES 2024), with flow, anti and output dependences as conditions on one choice after another.
 use Rattle.std.specs.Prelude.{ℕ, ℤ, Bool, true, false, pos, ◌≡◌, ◌+ℤ◌, ◌==◌, ◌&&◌, ◌||◌, not, map, List, [], ◌∷◌, ◌++◌, slice_index, slice_get, length, option_and_then, is_some, int_le, Option, None, Some, if◌then◌else◌}
 use Rattle.std.specs.Ordering.{nat_cmp}
 use Rattle.std.specs.FinMap.{FinMap}

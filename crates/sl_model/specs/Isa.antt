@@ -1,4 +1,5 @@
--- An instruction set, as far as theorems speak of one.
+-- An instruction set, as far as theorems speak of one. Source: DDI 0487 and DDI 0403, whose pseudocode gives of each
+-- instruction its operands, its address, what it computes and what it stores.
 use Rattle.std.specs.Prelude.{ℕ, ℤ, Bool, pos, ◌+ℤ◌, List, unsigned_abs}
 use Rattle.std.specs.Int.{int_rem_euclid}
 use Rattle.sl_model.specs.declared.register.Bank.{Bank}

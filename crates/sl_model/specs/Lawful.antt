@@ -1,4 +1,5 @@
--- Which instructions an instruction set has, and what is asked of it.
+-- Which instructions an instruction set has, and what is asked of it. Source: DDI 0487 and DDI 0403, the operands that an
+-- encoding allows, and the widths of registers and addresses.
 use Rattle.std.specs.Prelude.{ℕ, Bool, true, false, pos, ◌/◌, ◌%◌, ◌^◌, nat_lt, ◌<◌, ◌≤◌, ◌≡◌, ◌≤ℤ◌, ◌+ℤ◌, List, length, slice_get, Option, None, Some, if◌then◌else◌}
 use Rattle.std.specs.List.{list_all, list_any, zip}
 use Rattle.sl_model.specs.declared.register.Bank.{Bank}

@@ -1,4 +1,5 @@
--- Sets of registers of the machine.
+-- Sets of registers of the machine: the register classes of an instruction's operands. Source: DDI 0487 (A64) and DDI 0403
+-- (Armv7-M), the register fields of encodings.
 use Rattle.std.specs.Prelude.{ℕ, Bool, nat_lt, ◌+◌, ◌^◌, ◌==◌, ◌&&◌, not, bit_or, List, [], ◌∷◌, if◌then◌else◌}
 use Rattle.std.specs.Int.{bit_at}
 use Rattle.sl_model.specs.declared.register.Bank.{Bank}

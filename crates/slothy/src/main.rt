@@ -1,9 +1,13 @@
 //! The program `slothy`: the command on the system's files and streams.
 #![tactic(auto)]
 
+ghost use Rattle.std.specs.Prelude.{◌≡◌, ◌↔◌, ◌⊎◌};
+ghost use Rattle.std.specs.IoError.{error_kind};
+
 use sl_base::{HostErr, HostFiles, HostOut, NoGate};
 use slothy_cli::{Status, run};
 use std::alloc::{AllocError, Global};
+use std::io::ErrorKind;
 use std::process::ExitCode;
 use std::rt::Env;
 use std::{env, io};
@@ -14,9 +18,12 @@ fn words(rt: &(impl Env + AllocGlobal)) -> io::Result<Vec<String>> {
 }
 
 /// The status where the words can't be had: they aren't UTF-8, or there is no memory for them.
-fn wordless(error: &io::Error) -> Status {
+fn wordless(error: &io::Error) -> Status
+    ensures memory { (result ≡ Status.NoMemory) ↔ (error_kind error.now ≡ ErrorKind.OutOfMemory) }
+    ensures other { (result ≡ Status.NoMemory) ⊎ (result ≡ Status.Usage) }
+{
     match error.kind() {
-        io::ErrorKind::OutOfMemory => Status::NoMemory,
+        ErrorKind::OutOfMemory => Status::NoMemory,
         _ => Status::Usage,
     }
 }

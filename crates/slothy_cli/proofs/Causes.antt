@@ -1,7 +1,7 @@
 -- Why there is no text.
 use Rattle.std.proofs.Common.{true, false, ◌∙◌, cond, ◌≡◌, ℕ, ◌<◌, ◌≤◌, List, [], length, Option, None, Some, Result, Ok, Err, refl, ap, sym, subst, arith, nat_lt}
 use Rattle.std.specs.Option.{IfSome}
-use Rattle.std.specs.Prelude.{⊤, MatchResult, MatchBool}
+use Rattle.std.specs.Prelude.{⊤, MatchResult}
 use Rattle.std.proofs.lemmas.Bool.Decides.{nat_tests}
 use Rattle.sl_model.specs.declared.instruction.Instr.{Instr}
 use Rattle.sl_model.specs.declared.text.CutRefusal.TheVariants as cuts
@@ -26,11 +26,10 @@ use Rattle.slothy_cli.specs.declared.stop.Failure.{Failure}
 use Rattle.slothy_cli.specs.declared.stop.Failure.TheVariants as failures
 use Rattle.slothy_cli.specs.declared.status.Ending.{Ending}
 use Rattle.slothy_cli.specs.declared.status.Ending.TheVariants as endings
-use Rattle.slothy_cli.specs.Command.{Task, cost, opt, emulate, Command, wants_of}
-use Rattle.slothy_cli.specs.CostText.{cost_text}
+use Rattle.slothy_cli.specs.Command.{opt, emulate, Command, wants_of}
 use Rattle.slothy_cli.specs.Outcome.{◌>>=◌, sized, text_or, text_from, stop_at, region_or, region_from, file_region, state_or, run_answer, TaskAnswers, Bytes, CommandAnswers}
-use Rattle.slothy_cli.specs.Ending.{FilesRun, AreOf, Known, state_known, known_of, AreBytesOf, state_text_name, file_name, AreTold, HasText, HasStop, HasCause, is_file_limit, file_of}
-use Rattle.slothy_cli.specs.Parts.{RunText, RunStop, RunCause, RegionText, RegionStop, RegionCause}
+use Rattle.slothy_cli.specs.Ending.{FilesRun, AreOf, Known, name_read, AreTold, HasText, HasStop, HasCause, is_file_limit, file_of}
+use Rattle.slothy_cli.specs.Parts.{RunStop, RunCause, RegionText, RegionStop, RegionCause}
 use Rattle.slothy_cli.specs.Shown.{Fails, unread_ending, failed_ending}
 use Rattle.slothy_cli.proofs.Items.{sized_within}
 use Rattle.slothy_cli.proofs.Telling.{risen_before}
@@ -143,9 +142,9 @@ pub unread_cause : (language : Language) (c : Command) (known : Known) (files : 
     → MatchReadErr error ⊤ (λ _. files.chosen ≡ c.name)
     → ((bytes : List ℕ) → known.input ≡ Some bytes → MatchReadErr error ⊤ (λ _. 1048576 < length bytes))
     → HasCause language c known files (unread_ending which.Input error)
-unread_cause language c known files errors.ReadFault risen chosen broken given long told = (risen, chosen, broken)
+unread_cause language c known files errors.ReadFault risen chosen broken given long told = (risen, ap Some (sym chosen), broken)
 unread_cause language c known files (errors.TooLong limit) risen chosen broken given long told =
-    (long, given, λ (bytes : Bytes) (e : known.input ≡ Some bytes.input). too_long language c bytes (told bytes.input e))
+    (ap Some (sym long), given, λ (bytes : Bytes) (e : known.input ≡ Some bytes.input). too_long language c bytes (told bytes.input e))
 unread_cause language c known files errors.NoMemory risen chosen broken given long told = tt
 
 told_state : (language : Language) (items : List Instr) (known : Option (List ℕ)) → ((bytes : List ℕ) → known ≡ Some bytes → 1048576 < length bytes)
@@ -193,7 +192,7 @@ unanswered_run language items known name files bytes failures.NoMemory short tol
 pub region_of_run : (language : Language) (name : List ℕ) (turns : ℕ) (region : Region) (known : Option (List ℕ)) (files : FilesRun) (ending : Ending)
     → RunCause language region.items known name files ending → RegionCause language (emulate name turns) region known files ending
 region_of_run language name turns region known files (endings.Stopped (Refused file line reason)) h = record { state = h.1.state; state_of_file = h.1.state_of_file; answers = sym h.1.answers }
-region_of_run language name turns region known files (endings.Stopped (TooLarge file line quantities.File limit)) h = (h.0, h.1.0, h.1.1, told_task known h.1.2)
+region_of_run language name turns region known files (endings.Stopped (TooLarge file line quantities.File limit)) h = (h.0, ap Some (sym h.1.0), h.1.1, told_task known h.1.2)
   where
     told_task : (k : Option (List ℕ)) → IfSome k (λ state. run_answer language region.items state ≡ Err (TooLarge file line quantities.File limit))
         → IfSome k (λ state. TaskAnswers language (emulate name turns) region state (Err (TooLarge file line quantities.File limit)))
@@ -201,7 +200,7 @@ region_of_run language name turns region known files (endings.Stopped (TooLarge 
     told_task (Some state) e = sym e
 region_of_run language name turns region known files (endings.Stopped (TooLarge file line quantities.Items limit)) h = record { state = h.1.state; state_of_file = h.1.state_of_file; answers = sym h.1.answers }
 region_of_run language name turns region known files (endings.Stopped (Infeasible most)) h = record { state = h.1.state; state_of_file = h.1.state_of_file; answers = sym h.1.answers }
-region_of_run language name turns region known files (endings.ReadFault file) h = h
+region_of_run language name turns region known files (endings.ReadFault file) h = (h.0, h.1, ap Some (sym h.2), h.3)
 region_of_run language name turns region known files endings.NoMemory h = tt
 region_of_run language name turns region known files endings.Done h = h
 region_of_run language name turns region known files endings.Usage h = h
@@ -292,14 +291,14 @@ pub cause_of_region_is : (language : Language) (c : Command) (known : Known) (fi
     → AreOf known.input bytes → file_region language (wants_of c.task) bytes ≡ Ok region → RegionCause language c.task region known.state files ending → HasCause language c known files ending
 cause_of_region_is language c known files bytes region (endings.Stopped (Refused file line reason)) told e h = region_stop_is language c known bytes region (Refused file line reason) told e h
 cause_of_region_is language c known files bytes region (endings.Stopped (TooLarge file line quantities.File limit)) told e h = (
-  h.1 ∙ ap (λ f. file_name c f) (sym h.0),
+  ap (name_read c) h.0 ∙ h.1,
   h.2,
   subst (λ f. (b : Bytes) → AreTold f known b → CommandAnswers language c b (Err (TooLarge file line quantities.File limit))) (sym h.0)
       (limit_is language c known bytes region (TooLarge file line quantities.File limit) told e h.3),
 )
 cause_of_region_is language c known files bytes region (endings.Stopped (TooLarge file line quantities.Items limit)) told e h = region_stop_is language c known bytes region (TooLarge file line quantities.Items limit) told e h
 cause_of_region_is language c known files bytes region (endings.Stopped (Infeasible most)) told e h = region_stop_is language c known bytes region (Infeasible most) told e h
-cause_of_region_is language c known files bytes region (endings.ReadFault file) told e h = (h.1, h.2 ∙ ap (λ f. file_name c f) (sym h.0), h.3)
+cause_of_region_is language c known files bytes region (endings.ReadFault file) told e h = (h.1, ap (name_read c) h.0 ∙ h.2, h.3)
 cause_of_region_is language c known files bytes region endings.NoMemory told e h = tt
 cause_of_region_is language c known files bytes region endings.Done told e h = h
 cause_of_region_is language c known files bytes region endings.Usage told e h = h

@@ -1,5 +1,5 @@
 -- The region of a file, by its text; and a run on a state file, by its text.
-use Rattle.std.proofs.Common.{false, cond, ◌≡◌, ℕ, ◌≤◌, List, length, Result, Ok, Err, refl, ap, ◌∙◌, arith, nat_lt}
+use Rattle.std.proofs.Common.{false, cond, ◌≡◌, ℕ, ◌≤◌, List, length, Ok, Err, ap, ◌∙◌, arith, nat_lt}
 use Rattle.std.proofs.lemmas.Bool.Decides.{nat_tests}
 use Rattle.sl_model.specs.declared.instruction.Instr.{Instr}
 use Rattle.sl_isa.specs.Arch.{Language}

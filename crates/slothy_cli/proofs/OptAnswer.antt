@@ -1,11 +1,12 @@
 -- What `opt` answers.
-use Rattle.std.proofs.Common.{◌≡◌, ℕ, ◌≤◌, List, [], length, Option, Some, Result, Ok, Err, if◌then◌else◌, refl, sym, ap, ◌∙◌, subst, arith}
+use Rattle.std.proofs.Common.{◌≡◌, ℕ, ◌≤◌, true, nat_lt, List, [], length, Option, Some, Result, Ok, Err, if◌then◌else◌, refl, sym, ap, ◌∙◌, subst, arith}
 use Rattle.std.specs.Prelude.{MatchOption}
+use Rattle.std.specs.List.{list_all}
 use Rattle.std.proofs.lemmas.List.{length-replicate}
 use Rattle.sl_model.specs.declared.instruction.Instr.{Instr}
 use Rattle.sl_model.specs.declared.schedule.Choice.{Choice}
 use Rattle.sl_model.specs.Body.{applied}
-use Rattle.sl_model.specs.Legal.{Problem, written, body_of}
+use Rattle.sl_model.specs.Legal.{Problem, IsFullLegal, written, body_of}
 use Rattle.sl_model.specs.Isa.{Isa}
 use Rattle.sl_model.specs.Lawful.{IsLawful}
 use Rattle.sl_model.specs.Space.{InSpace, IsBest}
@@ -14,8 +15,9 @@ use Rattle.sl_isa.specs.Arch.{Language}
 use Rattle.legal_space.specs.Listing.{IsListable}
 use Rattle.asm_reader.specs.Reading.{Region}
 use Rattle.asm_reader.specs.Views.{comments_of}
+use Rattle.asm_reader.specs.Printed.{on_lines}
 use Rattle.asm_printer.specs.Printed.{line_end, written_text}
-use Rattle.asm_printer.specs.ReadBack.{IsPrintable, on_lines}
+use Rattle.asm_printer.specs.ReadBack.{IsPrintable}
 use Rattle.asm_printer.proofs.Kept.{applied-read}
 use Rattle.asm_printer.proofs.Listable.{straight-listable, read-concrete}
 use Rattle.asm_printer.proofs.Entries.{IsReadAgain}
@@ -28,7 +30,7 @@ use Rattle.slothy_cli.specs.CostText.{plain_costs, region_problem}
 use Rattle.slothy_cli.specs.Fine.{AreFine}
 use Rattle.slothy_cli.specs.Shown.{Settles}
 use Rattle.slothy_cli.specs.Outcome.{OptText, OptAnswers, wants_again}
-use Rattle.slothy_cli.proofs.OptChoices.{legal-length}
+use Rattle.slothy_cli.proofs.OptChoices.{legal-known, legal-units, legal-length}
 
 -- The problem of a region that `opt` takes can be listed.
 pub opt-listable : (language : Language) (latency : ℕ) (items : List Instr) → IsPrintable language.reads language.printed → AreFine language (wants_of (opt latency)) items → IsListable language.isa (region_problem latency items)
@@ -63,13 +65,36 @@ written-answers language latency region schedule answer lawful again printable f
     subst (OptAnswers language latency region) (sym is)
     (opt-text language latency region schedule (written_text language.printed region.parts (region_problem latency region.items) schedule) lawful again printable fine best refl)
 
--- What the search found is the best schedule of the region's problem.
-pub best-found : {V : Type 0} (view : V → List Choice) (isa : Isa) (latency : ℕ) (items given : List Instr) (problem : Problem) (found : Option V) (schedule : V)
-    → given ≡ items → problem ≡ region_problem latency given → found ≡ Some schedule
-    → MatchOption found ((x : List Choice) → InSpace isa problem 64 x → ⊥) (λ best. IsBest isa problem 64 (view best)) → IsBest isa (region_problem latency items) 64 (view schedule)
-best-found view isa latency items given problem found schedule same is here told =
-    subst (λ p. IsBest isa p 64 (view schedule)) (is ∙ ap (region_problem latency) same)
-    (subst (λ o. MatchOption o ((x : List Choice) → InSpace isa problem 64 x → ⊥) (λ best. IsBest isa problem 64 (view best))) here told)
+-- The schedule that the search found, as it is handed on, with the problem that it is of.
+pub record Found (isa : Isa) (latency : ℕ) (items : List Instr) (problem : Problem) (schedule : List Choice) : Type 0 where
+  pub is : problem ≡ region_problem latency items
+  pub best : IsBest isa (region_problem latency items) 64 schedule
+
+pub best-found : {V : Type 0} (view : V → List Choice) (isa : Isa) (latency : ℕ) (items given : List Instr) (problem : Problem) (found : Option V) (schedule : V) (handed : List Choice)
+    → given ≡ items → problem ≡ region_problem latency given → found ≡ Some schedule → handed ≡ view schedule
+    → MatchOption found ((x : List Choice) → InSpace isa problem 64 x → ⊥) (λ best. IsBest isa problem 64 (view best)) → Found isa latency items problem handed
+best-found view isa latency items given problem found schedule handed same of here on told =
+    let is : problem ≡ region_problem latency items = of ∙ ap (region_problem latency) same in
+    record {
+      is = is;
+      best = subst (λ p. IsBest isa p 64 handed) is
+          (subst (λ choices. IsBest isa problem 64 choices) (sym on)
+          (subst (λ o. MatchOption o ((x : List Choice) → InSpace isa problem 64 x → ⊥) (λ best. IsBest isa problem 64 (view best))) here told));
+    }
+
+-- It is full and legal, and has as many choices as there are items at most, each of an item and on a unit.
+module _ (isa : Isa) (latency : ℕ) (items : List Instr) (problem : Problem) (schedule : List Choice) (found : Found isa latency items problem schedule) where
+  pub found-few : length schedule ≤ length items
+  found-few = legal-length isa latency items schedule found.best.member.legal
+
+  pub found-known : list_all (λ c. nat_lt c.item (length problem.items)) schedule ≡ true
+  found-known = ap (λ p. list_all (λ c. nat_lt c.item (length p.items)) schedule) found.is ∙ legal-known isa latency items schedule found.best.member.legal
+
+  pub found-units : list_all (λ c. nat_lt c.unit 16) schedule ≡ true
+  found-units = legal-units isa latency items schedule found.best.member.legal
+
+  pub found-legal : IsFullLegal isa problem schedule
+  found-legal = subst (λ p. IsFullLegal isa p schedule) (sym found.is) found.best.member.legal
 
 -- what settles one question settles another that it answers
 pub settles-weaken : {X Y : Type 0} (view : X → Y) (r : Result X Failure) (P Q : Result Y Stop → Type 0) → ((a : Result Y Stop) → P a → Q a) → Settles view r P → Settles view r Q

@@ -10,7 +10,7 @@ use Rattle.sl_model.specs.declared.text.Comments.{Comments}
 use Rattle.sl_model.specs.declared.schedule.Source.TheVariants.{Item}
 use Rattle.sl_model.specs.Source.{outputs, item_at, place_from, output_or, source_of, last_source}
 use Rattle.sl_model.specs.Token.{Lexeme, tokens, open_behind}
-use Rattle.sl_model.specs.Text.{whole_lines, without_end, cut}
+use Rattle.sl_model.specs.Text.{whole_lines, numbered_lines, without_end, cut}
 use Rattle.sl_model.specs.Isa.{Isa}
 use Rattle.sl_model.specs.Lawful.{IsValid}
 use Rattle.sl_isa.specs.declared.reasons.FormReason.{FormReason}
@@ -202,13 +202,13 @@ module _ (language : Language) (reads_valid : (words : List Lexeme) (i : Instr) 
   fine-region comments start end text region e =
       bound (read.parts_or (cut start end text)) _ region (AreFine language wants region.items)
       (λ parts _ f.
-      bound (read.unless_at (read.first_unbuilt 1 (whole_lines parts.before)) parts) _ region (AreFine language wants region.items)
+      bound (read.unless_at (read.first_unbuilt (numbered_lines 1 parts.before)) parts) _ region (AreFine language wants region.items)
       (λ built _ g.
-      bound (read.with_lines language.reads comments wants (read.open_after comments false (whole_lines built.before)) built.first [] (whole_lines built.body)) _ region (AreFine language wants region.items)
+      bound (read.with_lines language.reads comments wants (read.open_after comments false (numbered_lines 1 built.before)) built.first [] (whole_lines built.body)) _ region (AreFine language wants region.items)
       (λ items is h.
       let same : record { parts = built; items = items } ≡ region = cc in
       subst (λ (reg : read.Region). AreFine language wants reg.items) same
-      (fine-lines comments (read.open_after comments false (whole_lines built.before)) built.first [] items (whole_lines built.body) fine-none is)) g) f) e
+      (fine-lines comments (read.open_after comments false (numbered_lines 1 built.before)) built.first [] items (whole_lines built.body) fine-none is)) g) f) e
 
   -- what a region is as a reason to stop
   from-region : (r : Result read.Region Refusal) (region : read.Region) → region_or r ≡ Ok region → r ≡ Ok region

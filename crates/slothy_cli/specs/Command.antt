@@ -62,8 +62,8 @@ state_of word = if is_name word then Some word else None
 
 -- a run from the state of a file, with so many turns
 abbrev pub emulation : Option (List ℕ) → Option ℕ → Option Task
-emulation None turns = None
-emulation (Some state) turns = option_map (λ n. emulate state n) turns
+emulation state None = None
+emulation state (Some turns) = option_map (λ name. emulate name turns) state
 
 -- what `--state STATE` asks for, and `--turns N` beside it, in either order
 abbrev pub run_of : List (List ℕ) → Option Task

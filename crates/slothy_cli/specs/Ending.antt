@@ -12,9 +12,9 @@ use Rattle.slothy_cli.specs.declared.status.Ending.{Ending}
 use Rattle.slothy_cli.specs.declared.status.Ending.TheVariants.{Done, Usage, Stopped, ReadFault, WriteFault, NoMemory}
 use Rattle.slothy_cli.specs.declared.stop.File.{File}
 use Rattle.slothy_cli.specs.declared.stop.File.TheVariants as which
-use Rattle.slothy_cli.specs.Command.{Task, cost, opt, emulate, Command, command_of}
+use Rattle.slothy_cli.specs.Command.{Task, cost, opt, emulate, Command, command_of, state_name}
 use Rattle.slothy_cli.specs.Outcome.{Bytes, CommandAnswers}
-use Rattle.slothy_cli.specs.Messages.{Names, name_in, stop_status, message_of}
+use Rattle.slothy_cli.specs.Messages.{Names, stop_status, message_of}
 
 -- what is seen of the files over a call: how many calls on them had failed before and after it, and as it ends the
 -- bytes given since the last choice, the chosen name, and whether a call on the chosen file failed
@@ -63,7 +63,7 @@ known_of c holds = record { input = holds c.name; state = state_known c.task hol
 abbrev pub AreBytesOf : Known → Bytes → Type 0
 AreBytesOf known bytes = AreOf known.input bytes.input × AreOf known.state bytes.state
 
--- the name of a command's file
+-- the name of the state file, as messages have it: empty where none is read
 abbrev pub state_text_name : Task → List ℕ
 state_text_name (cost latency) = []
 state_text_name (opt latency) = []
@@ -72,8 +72,10 @@ state_text_name (emulate state turns) = state
 abbrev pub names_of_command : Command → Names
 names_of_command c = record { input = c.name; state = state_text_name c.task }
 
-abbrev pub file_name : Command → File → List ℕ
-file_name c file = name_in (names_of_command c) file
+-- the name of a file that a command reads; of a state file only where it reads one
+abbrev pub name_read : Command → File → Option (List ℕ)
+name_read c which.Input = Some c.name
+name_read c which.State = state_name c.task
 
 abbrev pub is_file_limit : Stop → Bool
 is_file_limit (stops.Refused file line reason) = false
@@ -106,13 +108,13 @@ pub record HasStop (language : Language) (c : Command) (known : Known) (stop : S
 
 -- why there is no text for a command and its files, whose bytes may be known
 abbrev pub HasCause : Language → Command → Known → FilesRun → Ending → Type 0
--- the files' bytes have none; of a file that is too long, more than the limit was read
+-- the files' bytes have none; of a file that is too long, and that the command reads, more than the limit was read
 HasCause language c known files (Stopped stop) =
     MatchBool (is_file_limit stop)
-    ((files.chosen ≡ file_name c (file_of stop)) × (1048576 < files.given) × ((bytes : Bytes) → AreTold (file_of stop) known bytes → CommandAnswers language c bytes (Err stop)))
+    ((name_read c (file_of stop) ≡ Some files.chosen) × (1048576 < files.given) × ((bytes : Bytes) → AreTold (file_of stop) known bytes → CommandAnswers language c bytes (Err stop)))
     (HasStop language c known stop)
--- a call on the files failed, and it was one on this file
-HasCause language c known files (ReadFault file) = HasRisen files.faults_before files.faults_after × (files.chosen ≡ file_name c file) × (files.broken ≡ true)
+-- a call on the files failed, and it was one on this file, which the command reads
+HasCause language c known files (ReadFault file) = HasRisen files.faults_before files.faults_after × (name_read c file ≡ Some files.chosen) × (files.broken ≡ true)
 -- want of memory has no cause
 HasCause language c known files NoMemory = Unit {0}
 HasCause language c known files Done = ⊥

@@ -1,4 +1,4 @@
--- What a command answers to the bytes of its file: a text, or the reason why there is none.
+-- What a command answers to the bytes of its files: a text, or the reason why there is none.
 use Rattle.std.specs.Prelude.{ℕ, ◌≡◌, nat_lt, List, [], length, MatchResult, codes, Option, None, Some, Result, Ok, Err, false, if◌then◌else◌}
 use Rattle.sl_model.specs.declared.instruction.Instr.{Instr}
 use Rattle.sl_model.specs.declared.schedule.Choice.{Choice}

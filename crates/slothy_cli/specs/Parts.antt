@@ -1,5 +1,5 @@
 -- What the parts of a command's work answer: a run, and what is done with a region.
-use Rattle.std.specs.Prelude.{ℕ, ◌≡◌, ◌<◌, true, List, Option, Result, Ok, Err, IfSome, MatchBool}
+use Rattle.std.specs.Prelude.{ℕ, ◌≡◌, ◌<◌, true, List, Option, Some, Ok, Err, IfSome, MatchBool}
 use Rattle.sl_model.specs.declared.instruction.Instr.{Instr}
 use Rattle.sl_isa.specs.Arch.{Language}
 use Rattle.sl_base.specs.Faults.{HasRisen}
@@ -8,9 +8,9 @@ use Rattle.slothy_cli.specs.declared.stop.File.TheVariants as which
 use Rattle.slothy_cli.specs.declared.stop.Stop.{Stop}
 use Rattle.slothy_cli.specs.declared.status.Ending.{Ending}
 use Rattle.slothy_cli.specs.declared.status.Ending.TheVariants.{Done, Usage, Stopped, ReadFault, WriteFault, NoMemory}
-use Rattle.slothy_cli.specs.Command.{Task}
+use Rattle.slothy_cli.specs.Command.{Task, state_name}
 use Rattle.slothy_cli.specs.Outcome.{run_answer, TaskAnswers}
-use Rattle.slothy_cli.specs.Ending.{FilesRun, AreOf, is_file_limit, file_of, state_text_name}
+use Rattle.slothy_cli.specs.Ending.{FilesRun, AreOf, is_file_limit, file_of}
 
 -- There is a text of a run for the bytes of the state file, which may be known.
 pub record RunText (language : Language) (items : List Instr) (known : Option (List ℕ)) (text : List ℕ) : Type 0 where
@@ -50,10 +50,10 @@ pub record RegionStop (language : Language) (task : Task) (region : Region) (kno
 abbrev pub RegionCause : Language → Task → Region → Option (List ℕ) → FilesRun → Ending → Type 0
 RegionCause language task region known files (Stopped stop) =
     MatchBool (is_file_limit stop)
-    ((file_of stop ≡ which.State) × (files.chosen ≡ state_text_name task) × (1048576 < files.given) × IfSome known (λ state. TaskAnswers language task region state (Err stop)))
+    ((file_of stop ≡ which.State) × (state_name task ≡ Some files.chosen) × (1048576 < files.given) × IfSome known (λ state. TaskAnswers language task region state (Err stop)))
     (RegionStop language task region known stop)
 RegionCause language task region known files (ReadFault file) =
-    (file ≡ which.State) × HasRisen files.faults_before files.faults_after × (files.chosen ≡ state_text_name task) × (files.broken ≡ true)
+    (file ≡ which.State) × HasRisen files.faults_before files.faults_after × (state_name task ≡ Some files.chosen) × (files.broken ≡ true)
 RegionCause language task region known files NoMemory = Unit {0}
 RegionCause language task region known files Done = ⊥
 RegionCause language task region known files Usage = ⊥

@@ -150,12 +150,7 @@ fn emulation<'a>(state: &'a str, turns: u32) -> Option<Task<'a>>
 fn counted_emulation<'a>(state: &'a str, turns: &str) -> Option<Task<'a>>
     ensures { option_map shown_task result ≡ emulation (state_of state.now) (turns_of turns.now) }
 {
-    let turns = turns_of(turns);
-    if !is_name(state) {
-        return None;
-    }
-    let turns = turns?;
-    Some(Task::Run { state, turns })
+    emulation(state, turns_of(turns)?)
 }
 
 // What `--state STATE` asks for, and `--turns N` beside it, in either order.

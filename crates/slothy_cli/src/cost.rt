@@ -7,9 +7,9 @@ ghost use Rattle.renamer.specs.WellPosed.{AreValid};
 ghost use Rattle.slothy_cli.specs.CostText.{own_schedule, own_times, cost_numbers, cost_line, cost_lines, cost_head, cost_text};
 
 use crate::problem::region_problem;
-use asm_printer::pieces::{push, push_labelled};
 use issue_cost::NoMemory;
 use legal_space::{Choice, Times, times_of};
+use sl_base::{append, append_labelled};
 use sl_isa::Arch;
 use sl_model::instruction::Instr;
 use std::alloc::{AllocError, Global};
@@ -36,7 +36,7 @@ fn own_schedule(alloc: Global, items: &[Instr]) -> Result<Vec<Choice>, NoMemory>
 }
 
 /// When items, at most 64, are issued as they stand on the core `one:latency`.
-fn own_times(alloc: Global, items: &[Instr], latency: u8) -> Result<Times, NoMemory>
+pub(crate) fn own_times(alloc: Global, items: &[Instr], latency: u8) -> Result<Times, NoMemory>
     requires few { length items.now ≤ 64 }
     requires least { 1 ≤ latency }
     ensures cycles { IfOk result (λ times. times.cycles.items ≡ cycles_of (own_times latency items.now)) }
@@ -52,20 +52,20 @@ fn own_times(alloc: Global, items: &[Instr], latency: u8) -> Result<Times, NoMem
 fn push_head(out: &mut Vec<u8>, items: u64, cycles: u64, stalls: u64) -> Result<(), NoMemory>
     ensures { OnOk result (out.new.items ≡ out.old.items ++ cost_head items cycles stalls) }
 {
-    push_labelled(out, b"kind=straight n=", items)?;
-    push_labelled(out, b" cycles=", cycles)?;
-    push_labelled(out, b" stalls=", stalls)?;
-    push(out, b"\n")
+    append_labelled(out, b"kind=straight n=", items)?;
+    append_labelled(out, b" cycles=", cycles)?;
+    append_labelled(out, b" stalls=", stalls)?;
+    append(out, b"\n")
 }
 
 /// Adds the numbers of an item: its cycle, its place and its line in the file.
 fn push_numbers(out: &mut Vec<u8>, cycle: u64, number: u64, line: u64) -> Result<(), NoMemory>
     ensures { OnOk result (out.new.items ≡ out.old.items ++ cost_numbers cycle number line) }
 {
-    push_labelled(out, b"c=", cycle)?;
-    push_labelled(out, b" u=u i=", number)?;
-    push_labelled(out, b" line=", line)?;
-    push(out, b" ")
+    append_labelled(out, b"c=", cycle)?;
+    append_labelled(out, b" u=u i=", number)?;
+    append_labelled(out, b" line=", line)?;
+    append(out, b" ")
 }
 
 /// Adds the line of an item.
@@ -81,7 +81,7 @@ fn push_line<A: Arch>(
 {
     push_numbers(out, u64::from(cycle), number, u64::from(item.line))?;
     arch.print_form(item, out)?;
-    push(out, b"\n")
+    append(out, b"\n")
 }
 
 /// Adds a line for each item, of which there are at most 64 from the first one on.

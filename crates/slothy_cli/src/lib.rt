@@ -5,6 +5,8 @@ mod command;
 mod cost;
 mod input;
 mod opt;
+#[cfg(test)]
+mod opt_tests;
 mod problem;
 mod report;
 #[cfg(test)]

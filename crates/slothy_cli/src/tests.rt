@@ -1,5 +1,4 @@
-//! The command on files and sinks in memory.
-
+//! The command on files and sinks in memory: tables of calls, and how each has to end.
 use crate::{Status, run};
 use sl_base::{MemFiles, MemSink, NoGate};
 use std::alloc::{AllocError, Global};
@@ -7,7 +6,7 @@ use std::test::Fail;
 use std::thread::Threads;
 
 /// The region of three instructions.
-const CHAIN: &str =
+pub(crate) const CHAIN: &str =
     "slothy_start:\n        add x2, x1, x0\n        eor x3, x2, x2\n        sub x4, x1, x0\nslothy_end:\n";
 
 /// What `cost` says of it at latency 2.
@@ -20,34 +19,69 @@ const EMPTY_TEXT: &str = "kind=straight n=0 cycles=0 stalls=0\n";
 /// The message of wrong use.
 const USAGE: &str = "slothy: usage: slothy MODE [INPUT] [OPTIONS]\n";
 
-/// Which calls fail, and how much the output takes at once.
+/// Which call fails, if one does, and how much the output takes at once.
 #[derive(Clone, Copy)]
-struct Faults<'a> {
-    files: &'a [u64],
-    out: &'a [u64],
-    err: &'a [u64],
-    most: usize,
+pub(crate) struct Faults {
+    pub files: Option<u64>,
+    pub out: Option<u64>,
+    pub err: Option<u64>,
+    pub most: usize,
 }
 
 /// No call fails.
-const NONE: Faults<'static> = Faults {
-    files: &[],
-    out: &[],
-    err: &[],
+pub(crate) const NONE: Faults = Faults {
+    files: None,
+    out: None,
+    err: None,
     most: 4096,
+};
+
+/// A call on the files `k.s` and `s.txt`, and how it has to end.
+#[derive(Clone, Copy)]
+pub(crate) struct Case {
+    pub words: &'static str,
+    pub input: &'static str,
+    pub state: &'static str,
+    pub faults: Faults,
+    pub status: Status,
+    pub out: &'static str,
+    pub err: &'static str,
+}
+
+/// The costs of the chain at latency 2.
+const COST: Case = Case {
+    words: "cost k.s --core one:2",
+    input: CHAIN,
+    state: "",
+    faults: NONE,
+    status: Status::Done,
+    out: "",
+    err: "",
+};
+
+/// An input that is refused.
+const REFUSED: Case = Case {
+    status: Status::Refused,
+    ..COST
+};
+
+/// A region without instructions.
+const EMPTY: Case = Case {
+    out: EMPTY_TEXT,
+    ..COST
 };
 
 /// How a call ended, and what the sinks took.
 #[derive(Drop)]
-struct Answer {
-    status: Status,
-    out: Vec<u8>,
-    err: Vec<u8>,
+pub(crate) struct Answer {
+    pub status: Status,
+    pub out: Vec<u8>,
+    pub err: Vec<u8>,
 }
 
 impl Answer {
     /// Is it this status, with these texts on output and standard error?
-    fn is(&self, status: Status, out: &str, err: &str) -> bool {
+    pub(crate) fn is(&self, status: Status, out: &str, err: &str) -> bool {
         self.status == status
             && self.out.as_slice() == out.as_bytes()
             && self.err.as_slice() == err.as_bytes()
@@ -64,32 +98,57 @@ fn words_of(alloc: Global, text: &str) -> Result<Vec<String>, AllocError> {
     Ok(words)
 }
 
-/// Runs words on the one file `k.s`.
-fn run_on<R: Threads + Sync>(
+/// The list of the one call that fails, if one does.
+fn fails_of(alloc: Global, call: Option<u64>) -> Result<Vec<u64>, AllocError> {
+    let mut fails = Vec::new(alloc);
+    if let Some(call) = call {
+        fails.push(call)?;
+    }
+    Ok(fails)
+}
+
+/// A file with its name.
+fn file_of(alloc: Global, name: &str, bytes: &[u8]) -> Result<(String, Vec<u8>), AllocError> {
+    Ok((
+        String::from_str(alloc, name)?,
+        Vec::from_slice(alloc, bytes)?,
+    ))
+}
+
+/// The files `k.s` and `s.txt`.
+fn files_of(
+    alloc: Global,
+    input: &[u8],
+    state: &[u8],
+    fails: Option<u64>,
+) -> Result<MemFiles, AllocError> {
+    let mut files = Vec::new(alloc);
+    files.push(file_of(alloc, "k.s", input)?)?;
+    files.push(file_of(alloc, "s.txt", state)?)?;
+    Ok(MemFiles::new(files, fails_of(alloc, fails)?))
+}
+
+/// A sink that takes at most so many bytes at once.
+fn sink_of(alloc: Global, fails: Option<u64>, most: usize) -> Result<MemSink, AllocError> {
+    match MemSink::new(alloc, fails_of(alloc, fails)?, most.max(1), 65536) {
+        Ok(sink) => Ok(sink),
+        Err(_) => Err(AllocError),
+    }
+}
+
+/// Runs words on the files `k.s` and `s.txt`.
+pub(crate) fn run_on<R: Threads + Sync>(
     rt: &R,
     alloc: Global,
     words: &str,
-    text: &[u8],
-    faults: Faults<'_>,
+    input: &[u8],
+    state: &[u8],
+    faults: Faults,
 ) -> Result<Answer, AllocError> {
     let words = words_of(alloc, words)?;
-    let mut named = Vec::new(alloc);
-    named.push((
-        String::from_str(alloc, "k.s")?,
-        Vec::from_slice(alloc, text)?,
-    ))?;
-    let mut files = MemFiles::new(named, Vec::from_slice(alloc, faults.files)?);
-    let Ok(mut out) = MemSink::new(
-        alloc,
-        Vec::from_slice(alloc, faults.out)?,
-        faults.most.max(1),
-        65536,
-    ) else {
-        return Err(AllocError);
-    };
-    let Ok(mut err) = MemSink::new(alloc, Vec::from_slice(alloc, faults.err)?, 4096, 65536) else {
-        return Err(AllocError);
-    };
+    let mut files = files_of(alloc, input, state, faults.files)?;
+    let mut out = sink_of(alloc, faults.out, faults.most)?;
+    let mut err = sink_of(alloc, faults.err, 4096)?;
     let status = run(rt, alloc, &words, &mut files, &mut out, &mut err, &NoGate);
     Ok(Answer {
         status,
@@ -98,506 +157,406 @@ fn run_on<R: Threads + Sync>(
     })
 }
 
+/// Does a call end as it has to?
+fn is_right<R: Threads + Sync>(rt: &R, alloc: Global, case: &Case) -> Result<bool, AllocError> {
+    let answer = run_on(
+        rt,
+        alloc,
+        case.words,
+        case.input.as_bytes(),
+        case.state.as_bytes(),
+        case.faults,
+    )?;
+    Ok(answer.is(case.status, case.out, case.err))
+}
+
+/// The place of the first call that doesn't end as it has to.
+pub(crate) fn first_wrong<R: Threads + Sync>(
+    rt: &R,
+    alloc: Global,
+    cases: &[Case],
+) -> Result<Option<usize>, AllocError> {
+    for (place, case) in cases.iter().enumerate() {
+        if !is_right(rt, alloc, case)? {
+            return Ok(Some(place));
+        }
+    }
+    Ok(None)
+}
+
+/// The place of the first words that aren't wrong use.
+pub(crate) fn first_taken<R: Threads + Sync>(
+    rt: &R,
+    alloc: Global,
+    all: &[&str],
+) -> Result<Option<usize>, AllocError> {
+    for (place, words) in all.iter().enumerate() {
+        let answer = run_on(rt, alloc, words, CHAIN.as_bytes(), b"", NONE)?;
+        if !answer.is(Status::Usage, "", USAGE) {
+            return Ok(Some(place));
+        }
+    }
+    Ok(None)
+}
+
 #[test]
 fn a_chain_costs_what_the_issue_rule_says(rt: HostRuntime) -> Result<(), Fail> {
-    let answer = run_on(
-        &rt,
-        rt.alloc(),
-        "cost k.s --core one:2",
-        CHAIN.as_bytes(),
-        NONE,
-    )?;
-    assert!(rt; answer.is(Status::Done, CHAIN_TEXT, ""));
+    let case = Case {
+        out: CHAIN_TEXT,
+        ..COST
+    };
+    assert!(rt; is_right(&rt, rt.alloc(), &case)?);
     Ok(())
 }
 
-/// The region of three instructions, rescheduled at latency 2.
-const CHAIN_WRITTEN: &str = "\
-    slothy_start:\n\
-    \x20       // @slothy:region v=1 kind=straight n=3 cycles=3 stalls=0\n\
-    \x20       add x2, x1, x0 // @slothy:i=0 u=u c=0 line=2\n\
-    \x20       sub x4, x1, x0 // @slothy:i=2 u=u c=1 line=4\n\
-    \x20       eor x3, x2, x2 // @slothy:i=1 u=u c=2 line=3\n\
-    slothy_end:\n";
-
-#[test]
-fn opt_writes_the_best_schedule(rt: HostRuntime) -> Result<(), Fail> {
-    let cases = [
-        (
-            "opt k.s --core one:2",
-            CHAIN,
-            Status::Done,
-            CHAIN_WRITTEN,
-            "",
-        ),
-        (
-            "opt k.s --core one:2",
-            "        nop\nslothy_start:\n        add x2, x1, x0\n        eor x3, x2, x1\n        sub x1, x0, x4\nslothy_end: // x\n        ret",
-            Status::Done,
-            "\
-            \x20       nop\nslothy_start:\n\
-            \x20       // @slothy:region v=1 kind=straight n=3 cycles=4 stalls=1\n\
-            \x20       add x2, x1, x0 // @slothy:i=0 u=u c=0 line=3\n\
-            \x20       eor x3, x2, x1 // @slothy:i=1 u=u c=2 line=4\n\
-            \x20       sub x1, x0, x4 // @slothy:i=2 u=u c=3 line=5\n\
-            slothy_end: // x\n        ret",
-            "",
-        ),
-        (
-            "opt k.s --core one:66",
-            "slothy_start:\n        add x2, x1, x0\n        add x3, x2, x2\nslothy_end:\n",
-            Status::Infeasible,
-            "",
-            "slothy: infeasible up to 64 stalls\n",
-        ),
-        (
-            "opt k.s --core one:65",
-            "slothy_start:\n        add x2, x1, x0\n        add x3, x2, x2\nslothy_end:\n",
-            Status::Done,
-            "\
-            slothy_start:\n\
-            \x20       // @slothy:region v=1 kind=straight n=2 cycles=66 stalls=64\n\
-            \x20       add x2, x1, x0 // @slothy:i=0 u=u c=0 line=2\n\
-            \x20       add x3, x2, x2 // @slothy:i=1 u=u c=65 line=3\n\
-            slothy_end:\n",
-            "",
-        ),
-        (
-            "opt k.s --core one:2",
-            "slothy_start:\r\n        add x2, x1, x0\nslothy_end:\n",
-            Status::Done,
-            "\
-            slothy_start:\r\n\
-            \x20       // @slothy:region v=1 kind=straight n=1 cycles=1 stalls=0\r\n\
-            \x20       add x2, x1, x0 // @slothy:i=0 u=u c=0 line=2\r\n\
-            slothy_end:\n",
-            "",
-        ),
-        (
-            "opt k.s --core one:3",
-            "slothy_start:\n\tadds x1, x2, x3\n\tcsel x4, x1, x2, ne // reads the flags\n\tADD V0.4S,V1.4S,V2.4S\n\teor v3.16b, v1.16b, v2.16b\nslothy_end:\n",
-            Status::Done,
-            "\
-            slothy_start:\n\
-            \x20       // @slothy:region v=1 kind=straight n=4 cycles=4 stalls=0\n\
-            \x20       adds x1, x2, x3 // @slothy:i=0 u=u c=0 line=2\n\
-            \x20       add v0.4s, v1.4s, v2.4s // @slothy:i=2 u=u c=1 line=4\n\
-            \x20       eor v3.16b, v1.16b, v2.16b // @slothy:i=3 u=u c=2 line=5\n\
-            \x20       csel x4, x1, x2, ne // @slothy:i=1 u=u c=3 line=3\n\
-            slothy_end:\n",
-            "",
-        ),
-        (
-            "opt k.s --core one:2",
-            "slothy_start:\n        adds x1, x2, x3\n        subs x4, x5, x6\nslothy_end:\n",
-            Status::Refused,
-            "",
-            "slothy: k.s:3: refused: NotYet\n",
-        ),
-        (
-            "opt k.s --core one:2",
-            "slothy_start:\nslothy_end:\n",
-            Status::Done,
-            "\
-            slothy_start:\n\
-            \x20       // @slothy:region v=1 kind=straight n=0 cycles=0 stalls=0\n\
-            slothy_end:\n",
-            "",
-        ),
-        (
-            "opt k.s --core one:2",
-            "slothy_start:\n        add x2, x1, x0\n        add x2, x3, x3\n        nop\nslothy_end:\n",
-            Status::Refused,
-            "",
-            "slothy: k.s:3: refused: NotYet\n",
-        ),
-    ];
-    for (words, text, status, out, err) in cases {
-        let answer = run_on(&rt, rt.alloc(), words, text.as_bytes(), NONE)?;
-        assert!(rt; answer.is(status, out, err), "at {words} of {text:?}");
-    }
-    Ok(())
-}
-
-#[test]
-fn eight_items_are_the_limit_of_opt(rt: HostRuntime) -> Result<(), Fail> {
-    let alloc = rt.alloc();
-    let full =
-        "slothy_start:\n        add x1, x0, x0\n        add x2, x1, x1\n        add x3, x2, x2\n        add x4, x3, x3\n        add x5, x4, x4\n        add x6, x5, x5\n        add x7, x6, x6\n        add x8, x7, x7\n";
-    let ends = [
-        ("slothy_end:\n", Status::Done, ""),
-        (
-            "        add x1, x0, x0\nslothy_end:\n",
-            Status::TooLarge,
-            "slothy: k.s:10: too large: items limit=8\n",
-        ),
-        (
-            "        nop\nslothy_end:\n",
-            Status::Refused,
-            "slothy: k.s:10: refused: UnknownMnemonic\n",
-        ),
-    ];
-    for (end, status, err) in ends {
-        let text = repeated(alloc, full, "", 0, end)?;
-        let answer = run_on(&rt, alloc, "opt k.s --core one:2", &text, NONE)?;
-        assert_eq!(rt; answer.status, status);
-        assert!(rt; answer.err.as_slice() == err.as_bytes(), "at {end:?}");
-    }
-    Ok(())
-}
-
-/// What an instruction does to registers.
-#[derive(Clone, Copy)]
-struct Adds {
-    out: u16,
-    left: u16,
-    right: u16,
-}
-
-/// An `add` of these registers.
-const fn add_of(out: u16, left: u16, right: u16) -> Adds {
-    Adds { out, left, right }
-}
-
-impl Adds {
-    /// Does it read a register?
-    fn reads(self, register: u16) -> bool {
-        self.left == register || self.right == register
-    }
-
-    /// Must it stay below another, which stands above it?
-    fn depends_on(self, above: Adds) -> bool {
-        self.reads(above.out) || above.reads(self.out) || above.out == self.out
-    }
-}
-
-/// How many orders there are of the items behind each place of eight.
-const ORDERS: [u32; 8] = [5040, 720, 120, 24, 6, 2, 1, 1];
-
-/// The order of eight items with a number, where orders go by their first difference.
-fn order_of(number: u32) -> [usize; 8] {
-    let mut rest = number;
-    let mut order: [usize; 8] = [0; 8];
-    let mut used = [false; 8];
-    for place in 0..8 {
-        let behind = ORDERS[place].max(1);
-        let mut skipped = rest / behind;
-        rest %= behind;
-        for item in 0..8 {
-            if used[item] {
-                continue;
-            }
-            if skipped == 0 {
-                used[item] = true;
-                order[place] = item;
-                break;
-            }
-            skipped -= 1;
-        }
-    }
-    order
-}
-
-/// The cycles of eight items in an order, one after the other; none where an item stands above one that it depends on.
-fn cycles_in(items: &[Adds; 8], order: &[usize; 8], latency: u32) -> Option<[u32; 8]> {
-    let mut cycles: [u32; 8] = [0; 8];
-    let mut next: u32 = 0;
-    for place in 0..8 {
-        let mine = order[place];
-        let item = items.get(mine)?;
-        let mut cycle: u32 = next;
-        for above in 0..place {
-            let other = items.get(order[above])?;
-            if order[above] > mine && other.depends_on(*item) {
-                return None;
-            }
-            if order[above] < mine && item.reads(other.out) {
-                cycle = cycle.max(cycles[above].saturating_add(latency));
-            }
-        }
-        cycles[place] = cycle;
-        next = cycle.saturating_add(1);
-    }
-    Some(cycles)
-}
-
-/// The region of items, as it stands.
-fn region_of(alloc: Global, items: &[Adds; 8]) -> Result<String, AllocError> {
-    let mut text = String::from_str(alloc, "slothy_start:\n")?;
-    for item in items {
-        let (out, left, right) = (item.out, item.left, item.right);
-        write!(text, "        add x{out}, x{left}, x{right}\n")?;
-    }
-    text.push_str("slothy_end:\n")?;
-    Ok(text)
-}
-
-/// The region of items in an order, as it is written.
-fn written_in(
-    alloc: Global,
-    items: &[Adds; 8],
-    order: &[usize; 8],
-    cycles: &[u32; 8],
-) -> Result<String, AllocError> {
-    let count = cycles[7].saturating_add(1);
-    let stalls = count.saturating_sub(8);
-    let mut text = String::from_str(alloc, "slothy_start:\n")?;
-    write!(
-        text,
-        "        // @slothy:region v=1 kind=straight n=8 cycles={count} stalls={stalls}\n"
-    )?;
-    for (number, cycle) in order.iter().zip(cycles) {
-        let Some(item) = items.get(*number) else {
-            return Err(AllocError);
-        };
-        let (out, left, right) = (item.out, item.left, item.right);
-        let line = number.saturating_add(2);
-        write!(
-            text,
-            "        add x{out}, x{left}, x{right} // @slothy:i={number} u=u c={cycle} line={line}\n"
-        )?;
-    }
-    text.push_str("slothy_end:\n")?;
-    Ok(text)
-}
-
-/// The region of items in the first of their best orders, of all 40320, as it is written.
-fn best_written(alloc: Global, items: &[Adds; 8], latency: u32) -> Result<String, AllocError> {
-    let mut best = String::new(alloc);
-    let mut fewest = u32::MAX;
-    for number in 0..40320 {
-        let order = order_of(number);
-        let Some(cycles) = cycles_in(items, &order, latency) else {
-            continue;
-        };
-        if cycles[7] < fewest {
-            fewest = cycles[7];
-            best = written_in(alloc, items, &order, &cycles)?;
-        }
-    }
-    Ok(best)
-}
-
-#[test]
-fn a_list_of_all_orders_has_the_same_best(rt: HostRuntime) -> Result<(), Fail> {
-    let alloc = rt.alloc();
-    let regions = [
-        (
-            "opt k.s --core one:3",
-            3,
-            [
-                add_of(1, 0, 0),
-                add_of(2, 1, 1),
-                add_of(3, 2, 0),
-                add_of(4, 0, 0),
-                add_of(5, 4, 4),
-                add_of(6, 5, 0),
-                add_of(7, 3, 6),
-                add_of(8, 0, 7),
-            ],
-        ),
-        (
-            "opt k.s --core one:5",
-            5,
-            [
-                add_of(1, 9, 10),
-                add_of(2, 1, 10),
-                add_of(9, 2, 11),
-                add_of(3, 12, 10),
-                add_of(4, 3, 1),
-                add_of(12, 13, 13),
-                add_of(5, 13, 14),
-                add_of(13, 5, 4),
-            ],
-        ),
-    ];
-    for (words, latency, items) in regions {
-        let text = region_of(alloc, &items)?;
-        let wanted = best_written(alloc, &items, latency)?;
-        let answer = run_on(&rt, alloc, words, text.as_bytes(), NONE)?;
-        assert!(rt; answer.is(Status::Done, wanted.as_str(), ""), "at {words}");
-    }
-    Ok(())
-}
+/// Words that are wrong.
+const WRONG_WORDS: [&str; 26] = [
+    "",
+    "cost",
+    "cost k.s",
+    "cost k.s --core",
+    "cost k.s --core one:2 x",
+    "cost --core one:2 k.s",
+    "k.s cost --core one:2",
+    "opt k.s --core one:0",
+    "opt --core one:2 k.s",
+    "check k.s --core one:2",
+    "Cost k.s --core one:2",
+    "cost k.s --cores one:2",
+    "cost k.s core one:2",
+    "cost k.s --core=one:2",
+    "cost k.s --core=one:2 x",
+    "cost  --core one:2",
+    "cost -k.s --core one:2",
+    "cost - --core one:2",
+    "cost k.s --core one:0",
+    "cost k.s --core one:256",
+    "cost k.s --core one:02",
+    "cost k.s --core one:+2",
+    "cost k.s --core one:2x",
+    "cost k.s --core one:",
+    "cost k.s --core two:2",
+    "cost k.s --core one:18446744073709551618",
+];
 
 #[test]
 fn wrong_words_are_wrong_use(rt: HostRuntime) -> Result<(), Fail> {
-    let cases = [
-        "",
-        "cost",
-        "cost k.s",
-        "cost k.s --core",
-        "cost k.s --core one:2 x",
-        "cost --core one:2 k.s",
-        "k.s cost --core one:2",
-        "opt k.s --core one:0",
-        "opt --core one:2 k.s",
-        "check k.s --core one:2",
-        "Cost k.s --core one:2",
-        "cost k.s --cores one:2",
-        "cost k.s core one:2",
-        "cost k.s --core=one:2",
-        "cost k.s --core=one:2 x",
-        "cost  --core one:2",
-        "cost -k.s --core one:2",
-        "cost - --core one:2",
-        "cost k.s --core one:0",
-        "cost k.s --core one:256",
-        "cost k.s --core one:02",
-        "cost k.s --core one:+2",
-        "cost k.s --core one:2x",
-        "cost k.s --core one:",
-        "cost k.s --core two:2",
-        "cost k.s --core one:18446744073709551618",
-    ];
-    for words in cases {
-        let answer = run_on(&rt, rt.alloc(), words, CHAIN.as_bytes(), NONE)?;
-        assert!(rt; answer.is(Status::Usage, "", USAGE), "at {words}");
-    }
+    assert_eq!(rt; first_taken(&rt, rt.alloc(), &WRONG_WORDS)?, None);
     Ok(())
 }
 
+/// Inputs with their costs, or why they have none.
+const INPUTS: [Case; 23] = [
+    Case {
+        input: "",
+        err: "slothy: k.s:0: refused: NoStart\n",
+        ..REFUSED
+    },
+    Case {
+        input: "slothy_start:\n",
+        err: "slothy: k.s:0: refused: NoEnd\n",
+        ..REFUSED
+    },
+    Case {
+        input: "slothy_end:\nslothy_start:\n",
+        err: "slothy: k.s:0: refused: NoEnd\n",
+        ..REFUSED
+    },
+    Case {
+        input: "slothy_start:\nslothy_start:\nslothy_end:\n",
+        err: "slothy: k.s:2: refused: Twice\n",
+        ..REFUSED
+    },
+    Case {
+        input: "slothy_start:\nslothy_end:\n\nslothy_end:\n",
+        err: "slothy: k.s:4: refused: Twice\n",
+        ..REFUSED
+    },
+    Case {
+        input: "slothy_start:\nslothy_start:\n",
+        err: "slothy: k.s:2: refused: Twice\n",
+        ..REFUSED
+    },
+    Case {
+        input: "/*\nslothy_start:\n*/\nslothy_end:\n",
+        ..EMPTY
+    },
+    Case {
+        input: "f:\n.macro m\n.endm\nslothy_start:\nslothy_end:\n",
+        err: "slothy: k.s:2: refused: NotYet\n",
+        ..REFUSED
+    },
+    Case {
+        input: "f:\n.MACRO add\n.ENDM\nslothy_start:\nslothy_end:\n",
+        err: "slothy: k.s:2: refused: NotYet\n",
+        ..REFUSED
+    },
+    Case {
+        input: "a .req x1\nslothy_start:\nslothy_end:\n",
+        err: "slothy: k.s:1: refused: NotYet\n",
+        ..REFUSED
+    },
+    Case {
+        input: ".unreq a\nslothy_start:\nslothy_end:\n",
+        err: "slothy: k.s:1: refused: NotYet\n",
+        ..REFUSED
+    },
+    Case {
+        input: "slothy_start: // .macro\nslothy_end:\n",
+        err: "slothy: k.s:1: refused: NotYet\n",
+        ..REFUSED
+    },
+    Case {
+        input: "slothy_start:\r\n        add x1, x2, x3\r\nslothy_end:\r\n",
+        out: "kind=straight n=1 cycles=1 stalls=0\nc=0 u=u i=0 line=2 add x1, x2, x3\n",
+        ..COST
+    },
+    Case {
+        input: "slothy_start:\r\nslothy_end:\r\n",
+        ..EMPTY
+    },
+    Case {
+        input: "slothy_start:\nslothy_end:",
+        ..EMPTY
+    },
+    Case {
+        input: "  \tslothy_start:  // here\n slothy_end:\t\n.macro\n",
+        ..EMPTY
+    },
+    Case {
+        input: "slothy_start:\n        ldr x1, [x0]\nslothy_end:\n",
+        err: "slothy: k.s:2: refused: NotYet\n",
+        ..REFUSED
+    },
+    Case {
+        input: "slothy_start:\n        add x1, x2, x3\n\n\tADD\tX4,X1,X2 // twice\n/* none */ EOR x5 , x4 , x4; sub x6, x5, #1\nslothy_end:\n",
+        out: "kind=straight n=4 cycles=7 stalls=3\nc=0 u=u i=0 line=2 add x1, x2, x3\nc=2 u=u i=1 line=4 add x4, x1, x2\nc=4 u=u i=2 line=5 eor x5, x4, x4\nc=6 u=u i=3 line=5 sub x6, x5, #1\n",
+        ..COST
+    },
+    Case {
+        input: "slothy_start:\n        add x1, x2, x3 // @slothy:tag=t\nslothy_end:\n",
+        err: "slothy: k.s:2: refused: NotYet\n",
+        ..REFUSED
+    },
+    Case {
+        input: "slothy_start:\n        madden x1, x2\nslothy_end:\n",
+        err: "slothy: k.s:2: refused: UnknownMnemonic\n",
+        ..REFUSED
+    },
+    Case {
+        input: "slothy_start:\n        add x1, x2, #4096\nslothy_end:\n",
+        err: "slothy: k.s:2: refused: ImmediateRange\n",
+        ..REFUSED
+    },
+    Case {
+        input: "slothy_start:\n        add x1, x2, x31\nslothy_end:\n",
+        err: "slothy: k.s:2: refused: BadOperand\n",
+        ..REFUSED
+    },
+    Case {
+        input: "slothy_start:\n        add x1, x2, sp\nslothy_end:\n",
+        err: "slothy: k.s:2: refused: RegisterClass\n",
+        ..REFUSED
+    },
+];
+
 #[test]
 fn each_input_has_its_answer(rt: HostRuntime) -> Result<(), Fail> {
-    let cases = [
-        ("", Status::Refused, "", "slothy: k.s:0: refused: NoStart\n"),
-        (
-            "slothy_start:\n",
-            Status::Refused,
-            "",
-            "slothy: k.s:0: refused: NoEnd\n",
-        ),
-        (
-            "slothy_end:\nslothy_start:\n",
-            Status::Refused,
-            "",
-            "slothy: k.s:0: refused: NoEnd\n",
-        ),
-        (
-            "slothy_start:\nslothy_start:\nslothy_end:\n",
-            Status::Refused,
-            "",
-            "slothy: k.s:2: refused: Twice\n",
-        ),
-        (
-            "slothy_start:\nslothy_end:\n\nslothy_end:\n",
-            Status::Refused,
-            "",
-            "slothy: k.s:4: refused: Twice\n",
-        ),
-        (
-            "slothy_start:\nslothy_start:\n",
-            Status::Refused,
-            "",
-            "slothy: k.s:2: refused: Twice\n",
-        ),
-        (
-            "/*\nslothy_start:\n*/\nslothy_end:\n",
-            Status::Done,
-            EMPTY_TEXT,
-            "",
-        ),
-        (
-            "f:\n.macro m\n.endm\nslothy_start:\nslothy_end:\n",
-            Status::Refused,
-            "",
-            "slothy: k.s:2: refused: NotYet\n",
-        ),
-        (
-            "a .req x1\nslothy_start:\nslothy_end:\n",
-            Status::Refused,
-            "",
-            "slothy: k.s:1: refused: NotYet\n",
-        ),
-        (
-            ".unreq a\nslothy_start:\nslothy_end:\n",
-            Status::Refused,
-            "",
-            "slothy: k.s:1: refused: NotYet\n",
-        ),
-        (
-            "slothy_start: // .macro\nslothy_end:\n",
-            Status::Refused,
-            "",
-            "slothy: k.s:1: refused: NotYet\n",
-        ),
-        (
-            "slothy_start:\r\n        add x1, x2, x3\r\nslothy_end:\r\n",
-            Status::Done,
-            "kind=straight n=1 cycles=1 stalls=0\nc=0 u=u i=0 line=2 add x1, x2, x3\n",
-            "",
-        ),
-        (
-            "slothy_start:\r\nslothy_end:\r\n",
-            Status::Done,
-            EMPTY_TEXT,
-            "",
-        ),
-        ("slothy_start:\nslothy_end:", Status::Done, EMPTY_TEXT, ""),
-        (
-            "  \tslothy_start:  // here\n slothy_end:\t\n.macro\n",
-            Status::Done,
-            EMPTY_TEXT,
-            "",
-        ),
-        (
-            "slothy_start:\n        ldr x1, [x0]\nslothy_end:\n",
-            Status::Refused,
-            "",
-            "slothy: k.s:2: refused: NotYet\n",
-        ),
-        (
-            "slothy_start:\n        add x1, x2, x3\n\n\tADD\tX4,X1,X2 // twice\n/* none */ EOR x5 , x4 , x4; sub x6, x5, #1\nslothy_end:\n",
-            Status::Done,
-            "kind=straight n=4 cycles=7 stalls=3\nc=0 u=u i=0 line=2 add x1, x2, x3\nc=2 u=u i=1 line=4 add x4, x1, x2\nc=4 u=u i=2 line=5 eor x5, x4, x4\nc=6 u=u i=3 line=5 sub x6, x5, #1\n",
-            "",
-        ),
-        (
-            "slothy_start:\n        add x1, x2, x3 // @slothy:tag=t\nslothy_end:\n",
-            Status::Refused,
-            "",
-            "slothy: k.s:2: refused: NotYet\n",
-        ),
-        (
-            "slothy_start:\n        madden x1, x2\nslothy_end:\n",
-            Status::Refused,
-            "",
-            "slothy: k.s:2: refused: UnknownMnemonic\n",
-        ),
-        (
-            "slothy_start:\n        add x1, x2, #4096\nslothy_end:\n",
-            Status::Refused,
-            "",
-            "slothy: k.s:2: refused: ImmediateRange\n",
-        ),
-        (
-            "slothy_start:\n        add x1, x2, x31\nslothy_end:\n",
-            Status::Refused,
-            "",
-            "slothy: k.s:2: refused: BadOperand\n",
-        ),
-        (
-            "slothy_start:\n        add x1, x2, sp\nslothy_end:\n",
-            Status::Refused,
-            "",
-            "slothy: k.s:2: refused: RegisterClass\n",
-        ),
-    ];
-    for (text, status, out, err) in cases {
-        let answer = run_on(
-            &rt,
-            rt.alloc(),
-            "cost k.s --core one:2",
-            text.as_bytes(),
-            NONE,
-        )?;
-        assert!(rt; answer.is(status, out, err), "at {text:?}");
-    }
+    assert_eq!(rt; first_wrong(&rt, rt.alloc(), &INPUTS)?, None);
+    Ok(())
+}
+
+/// Inputs with statements, comments and lines of all kinds.
+const STATEMENTS: [Case; 18] = [
+    Case {
+        input: "slothy_end:\n.req\nslothy_start:",
+        err: "slothy: k.s:0: refused: NoEnd\n",
+        ..REFUSED
+    },
+    Case {
+        input: "slothy_start:\n\nslothy_start: //\nslothy_end:",
+        err: "slothy: k.s:3: refused: Twice\n",
+        ..REFUSED
+    },
+    Case {
+        input: ".macro m\nslothy_start:\nfoo\nslothy_end:\n",
+        err: "slothy: k.s:1: refused: NotYet\n",
+        ..REFUSED
+    },
+    Case {
+        input: "\r\nx .req y\r\nslothy_start:\r\nslothy_end:",
+        err: "slothy: k.s:2: refused: NotYet\n",
+        ..REFUSED
+    },
+    Case {
+        input: "\n\n/* .unreq */\nslothy_start:\nslothy_end:",
+        err: "slothy: k.s:3: refused: NotYet\n",
+        ..REFUSED
+    },
+    Case {
+        input: "// .re\nslothy_start:\n// .req\nslothy_end:\n.req",
+        ..EMPTY
+    },
+    Case {
+        input: "slothy_start:\n// a\n\n /* b\n c */; // d\nslothy_end:\n",
+        ..EMPTY
+    },
+    Case {
+        input: "x\nslothy_start:\n\n foo x0, x1, x2\nslothy_end:\n",
+        err: "slothy: k.s:4: refused: UnknownMnemonic\n",
+        ..REFUSED
+    },
+    Case {
+        input: "slothy_start:\n;; foo; b f\nslothy_end:\n",
+        err: "slothy: k.s:2: refused: UnknownMnemonic\n",
+        ..REFUSED
+    },
+    Case {
+        input: "slothy_start:\n;; b f; foo\nslothy_end:\n",
+        err: "slothy: k.s:2: refused: NotYet\n",
+        ..REFUSED
+    },
+    Case {
+        input: "slothy_start:\n/**/loop: foo\nslothy_end:\n",
+        err: "slothy: k.s:2: refused: NotYet\n",
+        ..REFUSED
+    },
+    Case {
+        input: "slothy_start:\n\n.p2align 4\nslothy_end:\n",
+        err: "slothy: k.s:3: refused: NotYet\n",
+        ..REFUSED
+    },
+    Case {
+        input: "slothy_start:\n@ foo\nslothy_end:\n",
+        err: "slothy: k.s:2: refused: UnknownMnemonic\n",
+        ..REFUSED
+    },
+    Case {
+        input: "/* a\nslothy_start:\nfoo\n b */ c\nslothy_end:\n",
+        err: "slothy: k.s:4: refused: UnknownMnemonic\n",
+        ..REFUSED
+    },
+    Case {
+        input: "/* a\nslothy_start:\nfoo\n b */;\n\nslothy_end:\n",
+        ..EMPTY
+    },
+    Case {
+        input: "/* a */\nslothy_start:\nfoo\nslothy_end:\n",
+        err: "slothy: k.s:3: refused: UnknownMnemonic\n",
+        ..REFUSED
+    },
+    Case {
+        input: "slothy_start:\n/* a\nfoo\nslothy_end:\n*/ foo\n",
+        ..EMPTY
+    },
+    Case {
+        input: "slothy_start:\n\n; // @slothy:i=0\nfoo\nslothy_end:\n",
+        err: "slothy: k.s:3: refused: NotYet\n",
+        ..REFUSED
+    },
+];
+
+#[test]
+fn a_text_is_read_line_by_line_and_statement_by_statement(rt: HostRuntime) -> Result<(), Fail> {
+    assert_eq!(rt; first_wrong(&rt, rt.alloc(), &STATEMENTS)?, None);
+    Ok(())
+}
+
+// Call 0 chooses the file, 1 gives its bytes, and 2 says that there are no more.
+/// Calls of which one on the files fails.
+const READ_FAULTS: [Case; 5] = [
+    Case {
+        faults: Faults {
+            files: Some(0),
+            ..NONE
+        },
+        status: Status::ReadFault,
+        err: "slothy: read fault: k.s\n",
+        ..COST
+    },
+    Case {
+        faults: Faults {
+            files: Some(1),
+            ..NONE
+        },
+        status: Status::ReadFault,
+        err: "slothy: read fault: k.s\n",
+        ..COST
+    },
+    Case {
+        faults: Faults {
+            files: Some(2),
+            ..NONE
+        },
+        status: Status::ReadFault,
+        err: "slothy: read fault: k.s\n",
+        ..COST
+    },
+    Case {
+        faults: Faults {
+            files: Some(3),
+            ..NONE
+        },
+        out: CHAIN_TEXT,
+        ..COST
+    },
+    Case {
+        words: "cost none.s --core one:2",
+        status: Status::ReadFault,
+        err: "slothy: read fault: none.s\n",
+        ..COST
+    },
+];
+
+#[test]
+fn each_failing_call_on_the_files_is_a_read_fault(rt: HostRuntime) -> Result<(), Fail> {
+    assert_eq!(rt; first_wrong(&rt, rt.alloc(), &READ_FAULTS)?, None);
+    Ok(())
+}
+
+// The message of a missing file is written in three pieces.
+/// Calls of which one on standard error fails.
+const MESSAGE_FAULTS: [Case; 3] = [
+    Case {
+        words: "cost none.s --core one:2",
+        faults: Faults {
+            err: Some(0),
+            ..NONE
+        },
+        status: Status::ReadFault,
+        err: "",
+        ..COST
+    },
+    Case {
+        words: "cost none.s --core one:2",
+        faults: Faults {
+            err: Some(1),
+            ..NONE
+        },
+        status: Status::ReadFault,
+        err: "slothy: read fault: ",
+        ..COST
+    },
+    Case {
+        words: "cost none.s --core one:2",
+        faults: Faults {
+            err: Some(2),
+            ..NONE
+        },
+        status: Status::ReadFault,
+        err: "slothy: read fault: none.s",
+        ..COST
+    },
+];
+
+#[test]
+fn a_failing_error_output_changes_no_status(rt: HostRuntime) -> Result<(), Fail> {
+    assert_eq!(rt; first_wrong(&rt, rt.alloc(), &MESSAGE_FAULTS)?, None);
     Ok(())
 }
 
 /// A text of a front, a line so many times, and a back.
-fn repeated(
+pub(crate) fn repeated(
     alloc: Global,
     front: &str,
     line: &str,
@@ -612,173 +571,184 @@ fn repeated(
     Ok(text)
 }
 
+/// A call on a long input: a front, a line so many times, and a back; and how it has to end. The output begins so, and has
+/// so many bytes.
+#[derive(Clone, Copy)]
+pub(crate) struct Grown {
+    pub words: &'static str,
+    pub front: &'static str,
+    pub line: &'static str,
+    pub count: usize,
+    pub back: &'static str,
+    pub status: Status,
+    pub out: &'static str,
+    pub bytes: usize,
+    pub err: &'static str,
+}
+
+/// A region of lines, with its costs at latency 1.
+const LINES: Grown = Grown {
+    words: "cost k.s --core one:1",
+    front: "slothy_start:\n",
+    line: "        add x1, x1, x2\n",
+    count: 64,
+    back: "slothy_end:\n",
+    status: Status::Done,
+    out: "kind=straight n=64 cycles=64 stalls=0\n",
+    bytes: 2378,
+    err: "",
+};
+
+/// A region of no lines, with many bytes behind it.
+const TAIL: Grown = Grown {
+    front: "slothy_start:\nslothy_end:\n",
+    line: "x",
+    back: "",
+    out: EMPTY_TEXT,
+    bytes: 36,
+    ..LINES
+};
+
+/// Does a call on a long input end as it has to?
+fn is_grown_right<R: Threads + Sync>(
+    rt: &R,
+    alloc: Global,
+    case: &Grown,
+) -> Result<bool, AllocError> {
+    let text = repeated(alloc, case.front, case.line, case.count, case.back)?;
+    let answer = run_on(rt, alloc, case.words, &text, b"", NONE)?;
+    Ok(
+        answer.status == case.status
+            && answer.out.starts_with(case.out.as_bytes())
+            && answer.out.len() == case.bytes
+            && answer.err.as_slice() == case.err.as_bytes(),
+    )
+}
+
+/// The place of the first such call that doesn't end as it has to.
+pub(crate) fn first_grown_wrong<R: Threads + Sync>(
+    rt: &R,
+    alloc: Global,
+    cases: &[Grown],
+) -> Result<Option<usize>, AllocError> {
+    for (place, case) in cases.iter().enumerate() {
+        if !is_grown_right(rt, alloc, case)? {
+            return Ok(Some(place));
+        }
+    }
+    Ok(None)
+}
+
+/// Inputs at their limits, and past them.
+const LIMITS: [Grown; 6] = [
+    LINES,
+    Grown {
+        count: 65,
+        status: Status::TooLarge,
+        out: "",
+        bytes: 0,
+        err: "slothy: k.s:66: too large: items limit=64\n",
+        ..LINES
+    },
+    Grown {
+        back: "        nop\nslothy_end:\n",
+        status: Status::Refused,
+        out: "",
+        bytes: 0,
+        err: "slothy: k.s:66: refused: UnknownMnemonic\n",
+        ..LINES
+    },
+    Grown {
+        count: 1048550,
+        ..TAIL
+    },
+    Grown {
+        count: 1048551,
+        status: Status::TooLarge,
+        out: "",
+        bytes: 0,
+        err: "slothy: k.s:0: too large: file limit=1048576\n",
+        ..TAIL
+    },
+    Grown {
+        line: "a",
+        count: 100000,
+        back: "\nslothy_end:\n",
+        status: Status::Refused,
+        out: "",
+        bytes: 0,
+        err: "slothy: k.s:2: refused: UnknownMnemonic\n",
+        ..LINES
+    },
+];
+
 #[test]
 fn sixty_four_items_and_a_mebibyte_are_the_limits(rt: HostRuntime) -> Result<(), Fail> {
-    let alloc = rt.alloc();
-    let (start, end, item) = (
-        "slothy_start:\n",
-        "slothy_end:\n",
-        "        add x1, x1, x2\n",
-    );
-    let full = repeated(alloc, start, item, 64, end)?;
-    let answer = run_on(&rt, alloc, "cost k.s --core one:1", &full, NONE)?;
-    assert_eq!(rt; answer.status, Status::Done);
-    assert!(rt;
-        answer
-            .out
-            .starts_with(b"kind=straight n=64 cycles=64 stalls=0\n")
-    );
-    let more = repeated(alloc, start, item, 65, end)?;
-    let answer = run_on(&rt, alloc, "cost k.s --core one:1", &more, NONE)?;
-    assert!(rt;
-        answer.is(
-            Status::TooLarge,
-            "",
-            "slothy: k.s:66: too large: items limit=64\n"
-        )
-    );
-    let faulty = repeated(alloc, start, item, 64, "        nop\nslothy_end:\n")?;
-    let answer = run_on(&rt, alloc, "cost k.s --core one:1", &faulty, NONE)?;
-    assert!(rt;
-        answer.is(
-            Status::Refused,
-            "",
-            "slothy: k.s:66: refused: UnknownMnemonic\n"
-        )
-    );
-    let whole = repeated(alloc, "slothy_start:\nslothy_end:\n", "x", 1048576 - 26, "")?;
-    let answer = run_on(&rt, alloc, "cost k.s --core one:1", &whole, NONE)?;
-    assert!(rt; answer.is(Status::Done, EMPTY_TEXT, ""));
-    let longer = repeated(alloc, "slothy_start:\nslothy_end:\n", "x", 1048577 - 26, "")?;
-    let answer = run_on(&rt, alloc, "cost k.s --core one:1", &longer, NONE)?;
-    assert!(rt;
-        answer.is(
-            Status::TooLarge,
-            "",
-            "slothy: k.s:0: too large: file limit=1048576\n"
-        )
-    );
-    let wide = repeated(alloc, start, "a", 100000, "\nslothy_end:\n")?;
-    let answer = run_on(&rt, alloc, "cost k.s --core one:1", &wide, NONE)?;
-    assert!(rt;
-        answer.is(
-            Status::Refused,
-            "",
-            "slothy: k.s:2: refused: UnknownMnemonic\n"
-        )
-    );
+    assert_eq!(rt; first_grown_wrong(&rt, rt.alloc(), &LIMITS)?, None);
     Ok(())
+}
+
+/// Is the chain refused at its line, where one of its bytes belongs to no character?
+fn is_no_text<R: Threads + Sync>(
+    rt: &R,
+    alloc: Global,
+    place: usize,
+    message: &str,
+) -> Result<bool, AllocError> {
+    let mut text = Vec::from_slice(alloc, CHAIN.as_bytes())?;
+    if let Some(byte) = text.get_mut(place) {
+        *byte = 0xff;
+    }
+    let answer = run_on(rt, alloc, "cost k.s --core one:2", &text, b"", NONE)?;
+    Ok(answer.is(Status::Refused, "", message))
 }
 
 #[test]
 fn bytes_that_are_no_text_are_refused_at_their_line(rt: HostRuntime) -> Result<(), Fail> {
-    let alloc = rt.alloc();
     let cases = [
         (0, "slothy: k.s:1: refused: NotText\n"),
         (30, "slothy: k.s:2: refused: NotText\n"),
         (90, "slothy: k.s:5: refused: NotText\n"),
     ];
     for (place, message) in cases {
-        let mut text = Vec::from_slice(alloc, CHAIN.as_bytes())?;
-        if let Some(byte) = text.get_mut(place) {
-            *byte = 0xff;
-        }
-        let answer = run_on(&rt, alloc, "cost k.s --core one:2", &text, NONE)?;
-        assert!(rt; answer.is(Status::Refused, "", message), "at {place}");
+        assert!(rt; is_no_text(&rt, rt.alloc(), place, message)?, "at {place}");
     }
     Ok(())
 }
 
-// Call 0 chooses the file, 1 gives its bytes, and 2 says that there are no more.
-#[test]
-fn each_failing_call_on_the_files_is_a_read_fault(rt: HostRuntime) -> Result<(), Fail> {
-    for call in 0..4u64 {
-        let faults = Faults {
-            files: &[call],
-            ..NONE
-        };
-        let answer = run_on(
-            &rt,
-            rt.alloc(),
-            "cost k.s --core one:2",
-            CHAIN.as_bytes(),
-            faults,
-        )?;
-        if call < 3 {
-            assert!(rt;
-                answer.is(Status::ReadFault, "", "slothy: read fault: k.s\n"),
-                "at {call}"
-            );
-        } else {
-            assert!(rt; answer.is(Status::Done, CHAIN_TEXT, ""), "at {call}");
-        }
-    }
-    let answer = run_on(
-        &rt,
-        rt.alloc(),
-        "cost none.s --core one:2",
-        CHAIN.as_bytes(),
-        NONE,
-    )?;
-    assert!(rt; answer.is(Status::ReadFault, "", "slothy: read fault: none.s\n"));
-    Ok(())
+/// Where a write of the chain's text fails, of which each takes 20 bytes: is what was written before it there, and no more?
+fn is_left<R: Threads + Sync>(rt: &R, alloc: Global, write: usize) -> Result<bool, AllocError> {
+    let faults = Faults {
+        out: Some(write as u64),
+        most: 20,
+        ..NONE
+    };
+    let answer = run_on(rt, alloc, COST.words, CHAIN.as_bytes(), b"", faults)?;
+    let sent = 20usize.saturating_mul(write);
+    let message = format!(in alloc; "slothy: write fault after {sent} bytes\n")?;
+    Ok(
+        answer.status == Status::WriteFault
+            && answer.out.len() == sent
+            && CHAIN_TEXT.as_bytes().starts_with(&answer.out)
+            && answer.err.as_slice() == message.as_bytes(),
+    )
 }
 
 // The text has 138 bytes, which is 7 writes of at most 20.
 #[test]
 fn each_failing_write_leaves_what_was_written_before(rt: HostRuntime) -> Result<(), Fail> {
-    let alloc = rt.alloc();
-    for write in 0..8u64 {
-        let faults = Faults {
-            out: &[write],
+    for write in 0..7 {
+        assert!(rt; is_left(&rt, rt.alloc(), write)?, "at {write}");
+    }
+    let case = Case {
+        faults: Faults {
+            out: Some(7),
             most: 20,
             ..NONE
-        };
-        let answer = run_on(
-            &rt,
-            alloc,
-            "cost k.s --core one:2",
-            CHAIN.as_bytes(),
-            faults,
-        )?;
-        let sent = 20 * write as usize;
-        if sent < CHAIN_TEXT.len() {
-            let message = format!(in alloc; "slothy: write fault after {sent} bytes\n")?;
-            assert_eq!(rt; answer.status, Status::WriteFault);
-            assert_eq!(rt; answer.out.len(), sent);
-            assert!(rt;
-                CHAIN_TEXT.as_bytes().starts_with(&answer.out),
-                "at {write}"
-            );
-            assert!(rt; answer.err.as_slice() == message.as_bytes(), "at {write}");
-        } else {
-            assert!(rt; answer.is(Status::Done, CHAIN_TEXT, ""), "at {write}");
-        }
-    }
-    Ok(())
-}
-
-// The message of a missing file is written in three pieces.
-#[test]
-fn a_failing_error_output_changes_no_status(rt: HostRuntime) -> Result<(), Fail> {
-    let cases = [
-        (0u64, ""),
-        (1, "slothy: read fault: "),
-        (2, "slothy: read fault: none.s"),
-    ];
-    for (write, taken) in cases {
-        let faults = Faults {
-            err: &[write],
-            ..NONE
-        };
-        let answer = run_on(
-            &rt,
-            rt.alloc(),
-            "cost none.s --core one:2",
-            CHAIN.as_bytes(),
-            faults,
-        )?;
-        assert!(rt; answer.is(Status::ReadFault, "", taken), "at {write}");
-    }
+        },
+        out: CHAIN_TEXT,
+        ..COST
+    };
+    assert!(rt; is_right(&rt, rt.alloc(), &case)?);
     Ok(())
 }

@@ -1,4 +1,4 @@
-//! From a command and its file to the text.
+//! From a command and its files to the text.
 ghost use Rattle.std.specs.Prelude.{◌≡◌, ◌≤◌, length, IfOk, IfErr};
 ghost use Rattle.asm_reader.specs.RegionViews.{region_of};
 ghost use Rattle.asm_printer.specs.ReadBack.{IsPrintable};

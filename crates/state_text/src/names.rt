@@ -5,9 +5,8 @@ ghost use Rattle.std.specs.Fmt.{decimal};
 ghost use Rattle.sl_model.specs.declared.register.Bank.TheVariants.{General};
 ghost use Rattle.sl_model.specs.StateText as spec;
 
-use crate::printer::push;
 use itoa::Buffer;
-use sl_base::NoMemory;
+use sl_base::{NoMemory, append, append_labelled};
 use sl_isa::{ArchName, Bank, Reg};
 
 /// A register of the machine.
@@ -114,26 +113,18 @@ pub fn register_named(arch: ArchName, word: &[u8]) -> Option<Reg>
     general_named(arch, word).or(other_named(arch, word))
 }
 
-// Adds a letter and a number.
-fn push_numbered(out: &mut Vec<u8>, letter: u8, number: u16) -> Result<(), NoMemory>
-    ensures { OnOk result (out.new.items ≡ out.old.items ++ letter ∷ decimal number) }
-{
-    push(out, &[letter])?;
-    push(out, Buffer::new().format(number).as_bytes())
-}
-
 // Adds the name of a general register.
 #[tactic(auto, unfolding(sl_model::specs::StateText::name_in))]
 fn push_general_name(out: &mut Vec<u8>, arch: ArchName, number: u16) -> Result<(), NoMemory>
     ensures { OnOk result (out.new.items ≡ out.old.items ++ spec.name_in arch General number) }
 {
     match arch {
-        ArchName::Arm64 => push_numbered(out, b'x', number),
+        ArchName::Arm64 => append_labelled(out, &[b'x'], u64::from(number)),
         ArchName::M4 => {
             if number == 14 {
-                return push(out, b"lr");
+                return append(out, b"lr");
             }
-            push_numbered(out, b'r', number)
+            append_labelled(out, &[b'r'], u64::from(number))
         }
     }
 }
@@ -146,10 +137,10 @@ pub fn push_name(out: &mut Vec<u8>, arch: ArchName, bank: Bank, number: u16) -> 
     match bank {
         Bank::General => push_general_name(out, arch, number),
         Bank::Vector => match arch {
-            ArchName::Arm64 => push_numbered(out, b'v', number),
-            ArchName::M4 => push_numbered(out, b's', number),
+            ArchName::Arm64 => append_labelled(out, &[b'v'], u64::from(number)),
+            ArchName::M4 => append_labelled(out, &[b's'], u64::from(number)),
         },
-        Bank::Flags => push(out, b"nzcv"),
-        Bank::Stack => push(out, b"sp"),
+        Bank::Flags => append(out, b"nzcv"),
+        Bank::Stack => append(out, b"sp"),
     }
 }

@@ -6,19 +6,8 @@ ghost use Rattle.sl_model.specs.StateText as spec;
 
 use crate::names::{push_name, register_in};
 use machine_sem::State;
-use sl_base::NoMemory;
+use sl_base::{NoMemory, append};
 use sl_isa::{ArchName, Bank, Reg};
-
-/// Adds a text. After `NoMemory` nothing has changed.
-pub fn push(out: &mut Vec<u8>, text: &[u8]) -> Result<(), NoMemory>
-    ensures ok { OnOk result (out.new.items ≡ out.old.items ++ text.now) }
-    ensures err { OnErr result (out.new.items ≡ out.old.items) }
-{
-    if out.extend_from_slice(text).is_err() {
-        return Err(NoMemory);
-    }
-    Ok(())
-}
 
 // A hexadecimal digit in lower case.
 fn hex_digit(value: u8) -> u8
@@ -40,7 +29,7 @@ fn push_hex(out: &mut Vec<u8>, count: u32, number: u128) -> Result<(), NoMemory>
         return Ok(());
     }
     let digit = (number >> (4 * (count - 1))) % 16;
-    push(out, &[hex_digit(digit as u8)])?;
+    append(out, &[hex_digit(digit as u8)])?;
     push_hex(out, count - 1, number)
 }
 
@@ -78,7 +67,7 @@ fn push_value(out: &mut Vec<u8>, arch: ArchName, bank: Bank, value: u128) -> Res
     ensures { OnOk result (out.new.items ≡ out.old.items ++ spec.value_text arch bank value) }
 {
     if bank == Bank::Flags {
-        return push(
+        return append(
             out,
             &[
                 bit_digit(value, 3),
@@ -88,7 +77,7 @@ fn push_value(out: &mut Vec<u8>, arch: ArchName, bank: Bank, value: u128) -> Res
             ],
         );
     }
-    push(out, b"0x")?;
+    append(out, b"0x")?;
     push_hex(out, digit_count(arch, bank), value)
 }
 
@@ -106,9 +95,9 @@ fn push_register(
         return Ok(());
     }
     push_name(out, arch, register.bank, register.number)?;
-    push(out, b" = ")?;
+    append(out, b" = ")?;
     push_value(out, arch, register.bank, state.reg(register))?;
-    push(out, b"\n")
+    append(out, b"\n")
 }
 
 // Adds the lines of so many registers of a bank, from a number on.
@@ -172,9 +161,9 @@ fn address_count(arch: ArchName) -> u32
 fn push_start(out: &mut Vec<u8>, arch: ArchName, address: u64, byte: u8) -> Result<(), NoMemory>
     ensures { OnOk result (out.new.items ≡ out.old.items ++ spec.bytes_start arch (address, byte)) }
 {
-    push(out, b"mem 0x")?;
+    append(out, b"mem 0x")?;
     push_hex(out, address_count(arch), u128::from(address))?;
-    push(out, b" = ")?;
+    append(out, b" = ")?;
     push_hex(out, 2, u128::from(byte))
 }
 
@@ -214,7 +203,7 @@ fn push_byte(
     if goes_on(row, address) {
         return push_hex(out, 2, u128::from(byte));
     }
-    push(out, b"\n")?;
+    append(out, b"\n")?;
     push_start(out, arch, address, byte)
 }
 
@@ -251,7 +240,7 @@ fn push_bytes(out: &mut Vec<u8>, arch: ArchName, state: &State) -> Result<(), No
         push_byte(out, arch, row, *address, *byte)?;
         row = row_behind(row, *address);
     }
-    push(out, b"\n")
+    append(out, b"\n")
 }
 
 // Adds a state.
@@ -272,5 +261,5 @@ pub fn print_state(arch: ArchName, state: &State, out: &mut Vec<u8>) -> Result<(
 {
     let mut text = Vec::new(*out.allocator());
     push_state(&mut text, arch, state)?;
-    push(out, &text)
+    append(out, &text)
 }

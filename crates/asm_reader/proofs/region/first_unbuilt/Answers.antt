@@ -1,26 +1,21 @@
-use Rattle.std.proofs.Common.{◌≡◌, true, false, ap, sym, ◌∙◌, rules, arith, length, length-append}
+use Rattle.std.proofs.Common.{◌≡◌, true, false, ap, sym, ◌∙◌}
+use Rattle.sl_text.specs.Lines.{lines_left}
 use Rattle.asm_reader.specs.Reading.{holds_unbuilt, first_unbuilt}
-use Rattle.asm_reader.proofs.Lines.{no_lines, unbuilt_here, unbuilt_below, unbuilt_nowhere}
-use Rattle.sl_model.specs.Text.{whole_lines}
+use Rattle.asm_reader.proofs.Lines.{unbuilt_here, unbuilt_below, unbuilt_nowhere}
 use Rattle.asm_reader.proofs.region.first_unbuilt.Goals as goal
+
+pub loop-line-init : goal.loop-line-init
+loop-line-init c = ap (λ left. first_unbuilt (lines_left left)) c.into_iter-line-iterator.ensures.into_iter_gives ∙ ap first_unbuilt c.lines-line-items.ensures.all
 
 pub returns-then-holds_unbuilt : goal.returns-then-holds_unbuilt
 returns-then-holds_unbuilt c =
-    let line = c.in-Some.line.now in
-    let below = c.in-Some.below.now in
-    let unbuilt : holds_unbuilt line ≡ true = sym c.if-holds_unbuilt.ensures in
-    sym (unbuilt_here c.loop-line.number line (whole_lines below) unbuilt) ∙ ap (first_unbuilt c.loop-line.number) (sym c.in-Some.ensures.first) ∙ c.loop-line.invariant.found
+    let unbuilt : holds_unbuilt c.in-Some.line.text.now ≡ true = sym c.if-holds_unbuilt.ensures in
+    sym (unbuilt_here (lines_left c.loop-line.line-iterator) (lines_left c.next.new.self) c.in-Some.line.number c.in-Some.line.text.now c.in-Some.ensures.steps unbuilt) ∙ c.loop-line.invariant
 
 pub loop-line-preserved : goal.loop-line-preserved
 loop-line-preserved c =
-    let line = c.in-Some.line.now in
-    let below = c.in-Some.below.now in
-    let built : holds_unbuilt line ≡ false = sym c.if-holds_unbuilt.ensures in
-    record {
-      utf8 = search rules;
-      found = sym (unbuilt_below c.loop-line.number line (whole_lines below) built) ∙ ap (first_unbuilt c.loop-line.number) (sym c.in-Some.ensures.first) ∙ c.loop-line.invariant.found;
-      numbers = omega (arith, length-append line below, ap length c.in-Some.ensures.all.0, c.in-Some.ensures.all.1);
-    }
+    let built : holds_unbuilt c.in-Some.line.text.now ≡ false = sym c.if-holds_unbuilt.ensures in
+    unbuilt_below (lines_left c.loop-line.line-iterator) (lines_left c.next.new.self) c.in-Some.line.number c.in-Some.line.text.now c.in-Some.ensures.steps built ∙ c.loop-line.invariant
 
 pub returns : goal.returns
-returns c = sym (unbuilt_nowhere c.loop-line.number) ∙ ap (first_unbuilt c.loop-line.number) (sym (no_lines c.loop-line.rest.now c.in_default.ensures.first)) ∙ c.loop-line.invariant.found
+returns c = sym (unbuilt_nowhere (lines_left c.loop-line.line-iterator) c.in-None.ensures.steps.0) ∙ c.loop-line.invariant

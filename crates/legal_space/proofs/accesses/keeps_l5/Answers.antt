@@ -1,4 +1,4 @@
-use Rattle.std.proofs.Common.{◌≡◌, ℕ, Bool, ◌||◌, not, reverse, eq-eqb, sym, ap, ◌∙◌}
+use Rattle.std.proofs.Common.{◌||◌, not, reverse, eq-eqb, sym, ap, ◌∙◌}
 use Rattle.std.proofs.lemmas.Bool.{ne_eqb}
 use Rattle.std.specs.List.{list_all}
 use Rattle.sl_model.specs.Body.{above, conflict, is_placed}

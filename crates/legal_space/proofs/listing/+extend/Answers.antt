@@ -1,4 +1,4 @@
-use Rattle.std.proofs.Common.{◌≡◌, ℕ, ◌+◌, ◌-◌, ◌++◌, [], ◌∷◌, false, List, length, take, get_or, reverse, vec_len, is_some, Result, Ok, Err, sym, ap, ◌∙◌, subst, refl, rules, arith}
+use Rattle.std.proofs.Common.{◌≡◌, ℕ, ◌+◌, ◌-◌, ◌++◌, [], ◌∷◌, false, List, length, take, get_or, reverse, vec_len, is_some, Result, Ok, Err, sym, ap, ◌∙◌, arith}
 use Rattle.std.specs.Result.{OnOk}
 use Rattle.std.proofs.lemmas.List.{reverse-append, length_push}
 use Rattle.std.proofs.Math.Seq.{take-append_seam}
@@ -6,7 +6,8 @@ use Rattle.sl_model.specs.declared.schedule.Choice.{Choice}
 use Rattle.sl_model.specs.Legal.{first_broken}
 use Rattle.sl_model.specs.Body.{is_full}
 use Rattle.legal_space.specs.Listing.{listed, best_of}
-use Rattle.legal_space.proofs.ListingLemmas.{listed-full, listed-done, listed-left, offered-full, offered-none, step-passed, step-taken, step-end}
+use Rattle.legal_space.proofs.ListingLemmas.{listed-done, listed-left, offered-full, offered-none, step-taken, step-end}
+use Rattle.legal_space.proofs.TimesLemmas.{known_sources}
 use Rattle.legal_space.proofs.listing.+extend.Goals as goal
 
 -- what holds of an Ok, said otherwise
@@ -61,3 +62,6 @@ returns-clause-best g t c =
     let rest : is_full c.args.problem.now.order (reverse c.args.done.now.items) ≡ false = ap (λ xs. is_full c.args.problem.now.order (reverse xs)) (sym c.deref.ensures.value) ∙ sym c.is_full.ensures ∙ c.if-is_full.false in
     step-end g.A.Arch.isa c.args.problem.now c.args.choices.now (c.args.left - 1) (reverse c.args.done.now.items) c.loop-choice.choice-index c.loop-choice.best _ c.loop-choice-test.false c.loop-choice.invariant.rest
     ∙ ap (best_of c.args.problem.now c.args.best.now) (sym (listed-left g.A.Arch.isa c.args.problem.now c.args.choices.now c.args.left (reverse c.args.done.now.items) c.if-left-eq0.false rest))
+
+pub offer-requires-clause-sources : goal.offer-requires-clause-sources
+offer-requires-clause-sources g t c = known_sources c.args.problem.now c.requires.listable.sources

@@ -1,4 +1,4 @@
-use Rattle.std.proofs.Common.{◌≡◌, ℕ, ◌^◌, ◌<◌, ◌++◌, sym, ap, ◌∙◌, below_more, arith, rules}
+use Rattle.std.proofs.Common.{◌≡◌, ◌^◌, ◌<◌, ◌++◌, sym, ap, ◌∙◌, below_more, arith}
 use Rattle.sl_model.specs.Cycles.{row_of}
 use Rattle.legal_space.specs.Listing.{own_choices}
 use Rattle.legal_space.proofs.ListingLemmas.{items-none, items-more, items-all}

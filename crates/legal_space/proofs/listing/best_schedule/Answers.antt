@@ -1,4 +1,4 @@
-use Rattle.std.proofs.Common.{◌≡◌, ◌+◌, ◌<◌, ◌≤◌, [], List, length, reverse, sym, ap, ◌∙◌, subst, refl, rules, arith}
+use Rattle.std.proofs.Common.{◌≡◌, ◌+◌, [], length, reverse, sym, ap, ◌∙◌, subst, arith}
 use Rattle.std.specs.List.{list_all}
 use Rattle.sl_model.specs.Space.{IsBest}
 use Rattle.legal_space.specs.Listing.{is_known, all_choices, listed, best_of}
@@ -12,7 +12,7 @@ pub returns-then-best-from : goal.returns-then-best-from
 returns-then-best-from g c =
     let choices : c.deref.result.now ≡ all_choices c.args.problem.now = c.deref.ensures.value ∙ c.in_ok-choices.ensures.are in
     let found : c.extend.new.best ≡ best_of c.args.problem.now (record { limit = c.args.most + 1; schedule = [] }) (listed g.A.Arch.isa c.args.problem.now (all_choices c.args.problem.now) (length c.args.problem.now.items) []) =
-    c.in_ok-extend.ensures.best ∙ (λ i. best_of c.args.problem.now (c.none-best.ensures i) (listed g.A.Arch.isa c.args.problem.now (choices i) (c.len-2.ensures i) (reverse (c.in-Ok.ensures.items i)))) in
+    c.in_ok-extend.ensures.best ∙ (λ i. best_of c.args.problem.now (c.none-best.ensures i) (listed g.A.Arch.isa c.args.problem.now (choices i) (c.len-2.ensures i) (reverse (c.in_ok-done.ensures.items i)))) in
     let limit : c.best.inside.limit ≡ c.extend.new.best.limit = ap (λ f. f.limit) c.best.view_is in
     none-best g.A.Arch.isa c.args.problem.now c.requires c.in_ok-choices.ensures.few_units c.args.most c.extend.new.best found (omega arith)
 
@@ -20,7 +20,7 @@ pub returns : goal.returns
 returns g c =
     let choices : c.deref.result.now ≡ all_choices c.args.problem.now = c.deref.ensures.value ∙ c.in_ok-choices.ensures.are in
     let found : c.extend.new.best ≡ best_of c.args.problem.now (record { limit = c.args.most + 1; schedule = [] }) (listed g.A.Arch.isa c.args.problem.now (all_choices c.args.problem.now) (length c.args.problem.now.items) []) =
-    c.in_ok-extend.ensures.best ∙ (λ i. best_of c.args.problem.now (c.none-best.ensures i) (listed g.A.Arch.isa c.args.problem.now (choices i) (c.len-2.ensures i) (reverse (c.in-Ok.ensures.items i)))) in
+    c.in_ok-extend.ensures.best ∙ (λ i. best_of c.args.problem.now (c.none-best.ensures i) (listed g.A.Arch.isa c.args.problem.now (choices i) (c.len-2.ensures i) (reverse (c.in_ok-done.ensures.items i)))) in
     let limit : c.best.inside.limit ≡ c.extend.new.best.limit = ap (λ f. f.limit) c.best.view_is in
     let schedule : c.extend.new.best.schedule ≡ c.best.inside.schedule.items = sym (ap (λ f. f.schedule) c.best.view_is) in
     subst (IsBest g.A.Arch.isa c.args.problem.now c.args.most) schedule

@@ -1,4 +1,4 @@
-use Rattle.std.proofs.Common.{reverse, ap, ◌∙◌, sym}
+use Rattle.std.proofs.Common.{reverse, ap, ◌∙◌}
 use Rattle.sl_model.specs.declared.schedule.Source.TheVariants.{Entry}
 use Rattle.sl_model.specs.Source.{output_or}
 use Rattle.legal_space.proofs.PlacedLemmas.{held-nowhere, held-last}

@@ -1,4 +1,4 @@
-use Rattle.std.proofs.Common.{◌≡◌, ◌+◌, ◌≤◌, ℕ, max, arith}
+use Rattle.std.proofs.Common.{◌≡◌, ◌+◌, ◌≤◌, max, arith}
 use Rattle.sl_model.specs.Cycles.{ready_from}
 use Rattle.legal_space.proofs.TimesLemmas.{ready-more, ready-done}
 use Rattle.legal_space.proofs.times.ready_among.Goals as goal

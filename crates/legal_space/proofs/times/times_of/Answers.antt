@@ -2,12 +2,12 @@ use Rattle.std.proofs.Common.{◌≡◌, ℕ, suc, ◌+◌, ◌*◌, ◌<◌, �
 use Rattle.std.proofs.lemmas.List.{length_push, length-set, length-replicate}
 use Rattle.sl_model.specs.declared.schedule.Choice.{Choice}
 use Rattle.sl_model.specs.declared.schedule.Source.{Source}
-use Rattle.sl_model.specs.Cycles.{CostTable, Issued, Push, issued, issued_from, timed, timed_from, cycles_of, cycle_count, next_cycle, ready_from, row_of, stalls}
+use Rattle.sl_model.specs.Cycles.{CostTable, Issued, issued, issued_from, timed, timed_from, cycles_of, cycle_count, next_cycle, ready_from, row_of, stalls}
 use Rattle.sl_model.specs.Legal.{sources_in}
 use Rattle.issue_cost.specs.Timeline.{IsFreeBy, Timeline}
 use Rattle.issue_cost.proofs.IssueRule.{IsFreeBy-weaken}
 use Rattle.legal_space.specs.Above.{HasCycles}
-use Rattle.legal_space.proofs.TimesLemmas.{has_cycles-none, early-none, has_cycles-more, early-more, free-more, next_issued, choices-more, timed-more, timed-done, item-known}
+use Rattle.legal_space.proofs.TimesLemmas.{has_cycles-none, early-none, has_cycles-more, early-more, next_issued, choices-more, timed-more, timed-done, item-known}
 use Rattle.legal_space.proofs.times.times_of.Goals as goal
 
 pub loop-choice-init : goal.loop-choice-init
@@ -62,11 +62,9 @@ loop-choice-preserved c =
     let early : EachIndex c.deref.result.now (λ q. get_or c.deref.result.now q 0 ≤ 512 * k) =
     subst (λ cs. EachIndex cs (λ q. get_or cs q 0 ≤ 512 * k)) (sym c.deref.ensures.value) c.loop-choice.invariant.early in
     let soon_ready : ready ≤ 512 * k + 255 = c.ready_among-ready.ensures.early (512 * k) early in
+    let waited : IsFreeBy (512 * k + 255) done = IsFreeBy-weaken (512 * k) (512 * k + 255) done (omega arith) c.loop-choice.invariant.free in
     let soon : cycle ≤ 512 * k + 255 =
-    c.push-cycle.ensures.within (512 * k + 255) (IsFreeBy-weaken (512 * k) (512 * k + 255) done (omega arith) c.loop-choice.invariant.free) soon_ready in
-    let busy : c.busy-busy.result ≡ (row_of costs choice.item).busy =
-    c.busy-busy.ensures.busy ∙ ap (λ (v : CostTable). (row_of v choice.item).busy) given in
-    let brief : (row_of costs choice.item).busy ≤ 255 = subst (λ n. n ≤ 255) busy c.busy-busy.ensures.most in
+    c.push-cycle.ensures.within (512 * k + 255) waited soon_ready in
     let known : choice.item < length c.args.problem.now.items = item-known (length c.args.problem.now.items) schedule k d c.requires.known c.loop-choice-test.true in
     let inside : choice.item < length latest = subst (λ n. choice.item < n) (sym c.loop-choice.invariant.items) known in
     let stored : next ≡ set latest choice.item cycle = ap (λ n. set latest n cycle) c.from.ensures in
@@ -87,7 +85,7 @@ loop-choice-preserved c =
           (subst (λ all. HasCycles next (choice ∷ before) all) (sym one_more)
           (has_cycles-more latest next before done choice (next_issued costs choice cycle) c.loop-choice.invariant.has inside stored));
       early = early-more latest next choice.item cycle k c.loop-choice.invariant.early inside soon stored;
-      free = subst (λ all. IsFreeBy (512 * (k + 1)) all) (sym one_more) (free-more k (next_issued costs choice cycle) done c.loop-choice.invariant.free soon brief);
+      free = IsFreeBy-weaken (512 * k + 255 + 255) (512 * (k + 1)) more (omega arith) (c.push-cycle.ensures.free (512 * k + 255) waited soon_ready);
     }
 
 pub returns-clause-cycles : goal.returns-clause-cycles

@@ -1,7 +1,7 @@
 use Rattle.std.proofs.Common.{sym, subst}
 use Rattle.sl_model.specs.Lawful.{IsValid}
 use Rattle.machine_sem.specs.FewForms.{few_isa}
-use Rattle.machine_sem.specs.FewLaws.{example_valid}
+use Rattle.machine_sem.proofs.FewLemmas.{example_valid}
 use Rattle.machine_sem.proofs.few_forms.example.Goals as goal
 
 pub returns : goal.returns

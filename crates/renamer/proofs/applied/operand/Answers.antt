@@ -3,7 +3,7 @@ use Rattle.std.proofs.Common.{rules, tests, reverse}
 use Rattle.std.proofs.lemmas.Iterator.{YieldsList-from_slice}
 use Rattle.std.proofs.lemmas.Iterator.Consumers.{YieldsList-from_filter_map, nth_from_yields_List}
 use Rattle.sl_model.specs.Body.{given}
-use Rattle.renamer.proofs.AppliedLemmas.{option_map-same}
+use Rattle.legal_space.proofs.PlacedLemmas.{option_map-same}
 use Rattle.renamer.proofs.applied.operand.Goals as goal
 
 pub returns : goal.returns

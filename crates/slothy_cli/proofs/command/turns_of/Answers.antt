@@ -1,4 +1,4 @@
-use Rattle.std.proofs.Common.{◌≡◌, true, ◌∙◌, ap, sym, ◌≤◌, ◌<◌, arith}
+use Rattle.std.proofs.Common.{◌≡◌, true, ◌∙◌, ap, sym, arith}
 use Rattle.slothy_cli.proofs.Latency.{counted, parsed_turns, counted_none, counted_more, counted_some}
 use Rattle.slothy_cli.specs.Command.{is_number, turns_of}
 use Rattle.slothy_cli.proofs.command.turns_of.Goals as goal

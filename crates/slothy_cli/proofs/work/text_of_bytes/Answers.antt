@@ -1,7 +1,6 @@
 use Rattle.std.proofs.Common.{subst, sym, ap, ◌∙◌}
 use Rattle.sl_isa.specs.Arch.{Language}
 use Rattle.asm_reader.specs.RegionViews.{region_of}
-use Rattle.slothy_cli.specs.Command.{wants_of}
 use Rattle.slothy_cli.specs.Fine.{AreFine}
 use Rattle.slothy_cli.specs.Outcome.{file_region}
 use Rattle.slothy_cli.specs.Ending.{known_of}

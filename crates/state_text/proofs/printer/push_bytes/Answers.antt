@@ -22,5 +22,5 @@ loop-address-preserved c =
 
 pub returns : goal.returns
 returns c =
-    bytes_end c.push.result c.args.arch c.loop-address.out.items c.push.new.out.items (c.args.out.now.items ++ bytes_text c.args.arch (entries c.args.state.now.memory))
-    c.loop-address.address-iterator c.loop-address.row.room c.loop-address.row.next c.in-None.ensures.steps.0 c.loop-address.invariant c.push.ensures.ok
+    bytes_end c.append.result c.args.arch c.loop-address.out.items c.append.new.out.items (c.args.out.now.items ++ bytes_text c.args.arch (entries c.args.state.now.memory))
+    c.loop-address.address-iterator c.loop-address.row.room c.loop-address.row.next c.in-None.ensures.steps.0 c.loop-address.invariant c.append.ensures.ok

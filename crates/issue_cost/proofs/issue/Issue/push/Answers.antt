@@ -1,8 +1,9 @@
 use Rattle.std.proofs.Common.{◌≡◌, ◌+◌, ◌≤◌, [], ◌∷◌, length, map, subst, sym, ap, ap₂, ◌∙◌, arith}
-use Rattle.sl_model.specs.Cycles.{issued, issued_at, next_cycle}
+use Rattle.sl_model.specs.Cycles.{Issued, issued, issued_at, next_cycle, unit_free, row_of}
+use Rattle.issue_cost.specs.Timeline.{IsFreeBy}
 use Rattle.issue_cost.specs.Tallies.{Tallies}
 use Rattle.issue_cost.specs.Entries.{pushed, AreCounted}
-use Rattle.issue_cost.proofs.IssueRule.{issued_at-length, length-issued_from}
+use Rattle.issue_cost.proofs.IssueRule.{issued_at-length, length-issued_from, unit_free-taken, IsFreeBy-taken}
 use Rattle.issue_cost.proofs.EntryLemmas.{AreCounted-push, issued-push}
 use Rattle.issue_cost.proofs.issue.Issue.push.Goals as goal
 
@@ -47,3 +48,18 @@ returns-clause-counted c =
     ∙ issued-push c.self.inside.entries.items _
     ∙ ap (λ v. record { unit = c.args.unit; busy = c.busy-busy.result; cycle = next_cycle c.width.result c.args.unit c.args.ready (issued v.pushes) } ∷ issued v.pushes) c.self.view_is
     ∙ ap₂ (λ busy cycle. record { unit = c.args.unit; busy = busy; cycle = cycle } ∷ issued c.args.self.now.pushes) c.busy-busy.ensures.busy (sym (cycle_is c))
+
+-- what was issued
+abbrev item : (c : goal.After-push_reserved) → Issued
+item c = record { unit = c.args.unit; busy = (row_of c.args.costs.now c.args.item).busy; cycle = c.cycle_for-cycle.result }
+
+pub returns-clause-kept : goal.returns-clause-kept
+returns-clause-kept c =
+    ap (unit_free c.args.unit) (returns-clause-counted c)
+    ∙ unit_free-taken (item c) (issued c.args.self.now.pushes) c.cycle_for-cycle.ensures.may_issue.unit_is_free
+
+pub returns-clause-free : goal.returns-clause-free
+returns-clause-free c = λ limit by ready.
+    let brief : (row_of c.args.costs.now c.args.item).busy ≤ 255 = subst (λ n. n ≤ 255) c.busy-busy.ensures.busy c.busy-busy.ensures.most in
+    subst (IsFreeBy (limit + 255)) (sym (returns-clause-counted c))
+    (IsFreeBy-taken limit (item c) (issued c.args.self.now.pushes) by (c.cycle_for-cycle.ensures.within limit by ready) brief)

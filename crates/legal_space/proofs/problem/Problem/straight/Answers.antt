@@ -4,7 +4,7 @@ use Rattle.sl_model.specs.declared.instruction.Instr.{Instr}
 use Rattle.sl_model.specs.declared.schedule.Source.{Source}
 use Rattle.sl_model.specs.Source.{list_sources}
 use Rattle.sl_model.specs.Legal.{Problem, numbers_below}
-use Rattle.legal_space.specs.Timed.{is_known}
+use Rattle.legal_space.specs.Timed.{is_known_source}
 use Rattle.legal_space.proofs.StraightLemmas.{straight-known}
 use Rattle.legal_space.proofs.problem.Problem.straight.Goals as goal
 
@@ -19,6 +19,6 @@ returns-clause-sources c =
           let few : length (get_or (map (λ v. v.items) c.in_ok-sources.sources.items) item []) ≤ 4 = c.in_ok-sources.ensures.few item in
           subst (λ (all : List (List Source)). length (get_or all item []) ≤ 256) (sym made) (omega arith);
       known = λ item.
-          ap₂ (λ n (all : List (List Source)). list_all (is_known n) (get_or all item [])) (ap length items) sources
+          ap₂ (λ n (all : List (List Source)). list_all (is_known_source n) (get_or all item [])) (ap length items) sources
           ∙ straight-known c.args.items.items c.args.live.now c.args.free.now c.args.costs item;
     }
