@@ -1,9 +1,9 @@
 //! When the items of a schedule are issued.
 
-ghost use Rattle.std.specs.Prelude.{◌≡◌, ℕ, ◌+◌, ◌^◌, ◌<◌, ◌≤◌, List, length, nat_lt, slice_index, EachIndex, IfOk, IsTrue};
+ghost use Rattle.std.specs.Prelude.{◌≡◌, ℕ, ◌+◌, ◌^◌, ◌<◌, ◌≤◌, List, length, nat_lt, slice_index, EachIndex, IfOk, OnOk, IsTrue, replicate, []};
 ghost use Rattle.std.specs.List.{list_all};
 ghost use Rattle.sl_model.specs.declared.schedule.Choice.{Choice};
-ghost use Rattle.sl_model.specs.Cycles.{Issued, ready_at, ready_from, timed, cycles_of, cycle_count, stalls};
+ghost use Rattle.sl_model.specs.Cycles.{Issued, issued, ready_at, ready_from, timed, cycles_of, cycle_count, stalls};
 ghost use Rattle.sl_model.specs.Legal.{sources_in};
 ghost use Rattle.sl_model.specs.Space.{stalls_of};
 ghost use Rattle.legal_space.specs.Above.{HasCycles};
@@ -39,24 +39,48 @@ pub fn times_of(alloc: Global, problem: &Problem, schedule: &[Choice]) -> Result
     ensures count { IfOk result (λ times. times.count ≡ cycle_count (timed problem.now.costs (sources_in problem.now) schedule.now)) }
     ensures stalls { IfOk result (λ times. times.stalls ≡ stalls_of problem.now schedule.now) }
 {
-    let costs = problem.costs();
     let mut issue = Issue::with_room(alloc, schedule.len())?;
     let mut latest = vec![in alloc; 0; problem.len()]?;
-    let mut cycles = Vec::new(alloc);
-    for choice in schedule {
-        let sources = problem.sources_of(choice.item);
-        let ready = ready_among(costs, &latest, choice.item, sources);
-        let cycle = issue.push(costs, choice.item, choice.unit, ready);
-        latest[usize::from(choice.item)] = cycle;
-        cycles.push(cycle).map_err(AllocError::from)?;
-    }
+    let cycles = issue_all(alloc, problem, schedule, &mut issue, &mut latest)?;
     let count = issue.cycles();
-    let stalls = stalls(schedule.len(), costs.width(), count);
+    let stalls = stalls(schedule.len(), problem.costs().width(), count);
     Ok(Times {
         cycles,
         count,
         stalls,
     })
+}
+
+// Issues the choices of a schedule, one after the other, and gives their cycles. `latest` has the cycle of each item that
+// was issued, and 0 for the others.
+fn issue_all(
+    alloc: Global,
+    problem: &Problem,
+    schedule: &[Choice],
+    issue: &mut Issue,
+    latest: &mut [u32],
+) -> Result<Vec<u32>, NoMemory>
+    requires few { length schedule.now ≤ 65536 }
+    requires rows { length problem.now.costs.rows ≡ length problem.now.items }
+    requires sources { HasKnownSources problem.now }
+    requires known { IsTrue (list_all (λ c. nat_lt c.item (length problem.now.items)) schedule.now) }
+    requires units { IsTrue (list_all (λ c. nat_lt c.unit 16) schedule.now) }
+    requires empty { issue.old ≡ record { pushes = []; room = length schedule.now } }
+    requires none { latest.old ≡ replicate (length problem.now.items) 0 }
+    ensures cycles { IfOk result (λ cycles. cycles.items ≡ cycles_of (timed problem.now.costs (sources_in problem.now) schedule.now)) }
+    ensures issued { OnOk result (issued issue.new.pushes ≡ timed problem.now.costs (sources_in problem.now) schedule.now) }
+    ensures count { OnOk result (length (issued issue.new.pushes) ≡ length schedule.now) }
+{
+    let costs = problem.costs();
+    let mut cycles = Vec::new(alloc);
+    for choice in schedule {
+        let sources = problem.sources_of(choice.item);
+        let ready = ready_among(costs, latest, choice.item, sources);
+        let cycle = issue.push(costs, choice.item, choice.unit, ready);
+        latest[usize::from(choice.item)] = cycle;
+        cycles.push(cycle).map_err(AllocError::from)?;
+    }
+    Ok(cycles)
 }
 
 /// When all sources of an item's operands are ready, where the items were issued at these cycles.

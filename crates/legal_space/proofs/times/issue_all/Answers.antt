@@ -1,38 +1,35 @@
-use Rattle.std.proofs.Common.{◌≡◌, ℕ, suc, ◌+◌, ◌*◌, ◌<◌, ◌≤◌, List, [], ◌∷◌, ◌++◌, length, take, reverse, set, replicate, get_or, EachIndex, sym, ap, ap₂, ◌∙◌, subst, arith, rules}
+use Rattle.std.proofs.Common.{◌≡◌, ℕ, suc, ◌+◌, ◌*◌, ◌<◌, ◌≤◌, List, [], ◌∷◌, ◌++◌, length, take, reverse, set, get_or, sym, ap, ap₂, ◌∙◌, subst, arith, rules}
 use Rattle.std.proofs.lemmas.List.{length_push, length-set, length-replicate}
 use Rattle.sl_model.specs.declared.schedule.Choice.{Choice}
 use Rattle.sl_model.specs.declared.schedule.Source.{Source}
-use Rattle.sl_model.specs.Cycles.{CostTable, Issued, issued, issued_from, timed, timed_from, cycles_of, cycle_count, next_cycle, ready_from, row_of, stalls}
+use Rattle.sl_model.specs.Cycles.{CostTable, Issued, issued, issued_from, timed, timed_from, cycles_of, next_cycle, ready_from, row_of}
 use Rattle.sl_model.specs.Legal.{sources_in}
 use Rattle.issue_cost.specs.Timeline.{IsFreeBy, Timeline}
 use Rattle.issue_cost.proofs.IssueRule.{IsFreeBy-weaken}
 use Rattle.legal_space.specs.Above.{HasCycles}
 use Rattle.legal_space.proofs.TimesLemmas.{has_cycles-none, early-none, has_cycles-more, early-more, next_issued, choices-more, timed-more, timed-done, item-known}
-use Rattle.legal_space.proofs.times.times_of.Goals as goal
+use Rattle.legal_space.proofs.times.issue_all.Goals as goal
 
 pub loop-choice-init : goal.loop-choice-init
 unfolding issued_from
 loop-choice-init c =
-    let zeros : c.in_ok-latest.latest.items ≡ replicate c.len.result 0 = c.in_ok-latest.ensures.items_if_clones_equal (λ y e. e) in
-    let none : issued c.in_ok-issue.issue.pushes ≡ [] = ap (λ v. issued v.pushes) c.in_ok-issue.ensures in
+    let none : issued c.args.issue.now.pushes ≡ [] = ap (λ v. issued v.pushes) c.requires.empty in
     record {
       whole = ap (λ done. timed_from c.args.problem.now.costs (sources_in c.args.problem.now) [] done c.args.schedule.now) none;
       cycles = c.new-cycles.ensures.items ∙ ap cycles_of (sym none);
       count = ap length none;
-      pushes = ap (λ v. length v.pushes) c.in_ok-issue.ensures;
-      room = ap (λ v. v.room) c.in_ok-issue.ensures;
-      items = ap length zeros ∙ length-replicate c.len.result 0 ∙ c.len.ensures;
-      has = subst (λ done. HasCycles c.in_ok-latest.latest.items [] done) (sym none) (has_cycles-none c.len.result c.in_ok-latest.latest.items zeros);
-      early = early-none c.len.result c.in_ok-latest.latest.items zeros;
+      pushes = ap (λ v. length v.pushes) c.requires.empty;
+      room = ap (λ v. v.room) c.requires.empty;
+      items = ap length c.requires.none ∙ length-replicate (length c.args.problem.now.items) 0;
+      has = subst (λ done. HasCycles c.args.latest.now [] done) (sym none) (has_cycles-none (length c.args.problem.now.items) c.args.latest.now c.requires.none);
+      early = early-none (length c.args.problem.now.items) c.args.latest.now c.requires.none;
       free = subst (λ done. IsFreeBy (512 * 0) done) (sym none) tt;
     }
 
 pub push-cycle-requires-clause-ready : goal.push-cycle-requires-clause-ready
 push-cycle-requires-clause-ready c =
     let k : ℕ = c.loop-choice.choice-index in
-    let early : EachIndex c.deref.result.now (λ q. get_or c.deref.result.now q 0 ≤ 512 * k) =
-    subst (λ cs. EachIndex cs (λ q. get_or cs q 0 ≤ 512 * k)) (sym c.deref.ensures.value) c.loop-choice.invariant.early in
-    let soon : c.ready_among-ready.result ≤ 512 * k + 255 = c.ready_among-ready.ensures.early (512 * k) early in
+    let soon : c.ready_among-ready.result ≤ 512 * k + 255 = c.ready_among-ready.ensures.early (512 * k) c.loop-choice.invariant.early in
     omega arith
 
 pub loop-choice-preserved : goal.loop-choice-preserved
@@ -45,23 +42,20 @@ loop-choice-preserved c =
     let before : List Choice = reverse (take k schedule) in
     let done : List Issued = issued c.loop-choice.issue.pushes in
     let more : List Issued = issued c.push-cycle.new.self.pushes in
-    let latest : List ℕ = c.loop-choice.latest.items in
+    let latest : List ℕ = c.loop-choice.latest in
     let next : List ℕ = set latest c.from.result c.push-cycle.result in
     let ready : ℕ = c.ready_among-ready.result in
     let cycle : ℕ = c.push-cycle.result in
     let given : c.costs-costs.result.now ≡ costs = c.costs-costs.ensures in
     let theirs : c.sources_of-sources.result.now ≡ sources_in c.args.problem.now choice.item = c.sources_of-sources.ensures in
-    let seen : HasCycles c.deref.result.now before done = subst (λ cs. HasCycles cs before done) (sym c.deref.ensures.value) c.loop-choice.invariant.has in
     let at : ready ≡ ready_from costs before done choice.item 0 (sources_in c.args.problem.now choice.item) =
-    c.ready_among-ready.ensures.ready before done seen
+    c.ready_among-ready.ensures.ready before done c.loop-choice.invariant.has
     ∙ ap₂ (λ (v : CostTable) (sources : List Source). ready_from v before done choice.item 0 sources) given theirs in
     let counted : cycle ≡ next_cycle costs.width choice.unit ready done =
     c.push-cycle.ensures.cycle ∙ ap (λ (v : CostTable). next_cycle v.width choice.unit ready done) given in
     let one_more : more ≡ next_issued costs choice cycle ∷ done =
     c.push-cycle.ensures.counted ∙ ap (λ (v : CostTable). next_issued v choice cycle ∷ done) given in
-    let early : EachIndex c.deref.result.now (λ q. get_or c.deref.result.now q 0 ≤ 512 * k) =
-    subst (λ cs. EachIndex cs (λ q. get_or cs q 0 ≤ 512 * k)) (sym c.deref.ensures.value) c.loop-choice.invariant.early in
-    let soon_ready : ready ≤ 512 * k + 255 = c.ready_among-ready.ensures.early (512 * k) early in
+    let soon_ready : ready ≤ 512 * k + 255 = c.ready_among-ready.ensures.early (512 * k) c.loop-choice.invariant.early in
     let waited : IsFreeBy (512 * k + 255) done = IsFreeBy-weaken (512 * k) (512 * k + 255) done (omega arith) c.loop-choice.invariant.free in
     let soon : cycle ≤ 512 * k + 255 =
     c.push-cycle.ensures.within (512 * k + 255) waited soon_ready in
@@ -96,22 +90,8 @@ returns-clause-cycles c =
     c.loop-choice.choice-index c.loop-choice-test.false c.loop-choice.invariant.whole in
     c.loop-choice.invariant.cycles ∙ ap cycles_of issued_all
 
-pub returns-clause-count : goal.returns-clause-count
-returns-clause-count c =
-    let all : List Issued = timed c.args.problem.now.costs (sources_in c.args.problem.now) c.args.schedule.now in
-    let issued_all : issued c.loop-choice.issue.pushes ≡ all =
-    timed-done c.args.problem.now.costs (sources_in c.args.problem.now) c.args.schedule.now (issued c.loop-choice.issue.pushes) all
-    c.loop-choice.choice-index c.loop-choice-test.false c.loop-choice.invariant.whole in
-    c.cycles-count.ensures.cycles ∙ ap cycle_count issued_all
-
-pub returns-clause-stalls : goal.returns-clause-stalls
-returns-clause-stalls c =
-    let all : List Issued = timed c.args.problem.now.costs (sources_in c.args.problem.now) c.args.schedule.now in
-    let issued_all : issued c.loop-choice.issue.pushes ≡ all =
-    timed-done c.args.problem.now.costs (sources_in c.args.problem.now) c.args.schedule.now (issued c.loop-choice.issue.pushes) all
-    c.loop-choice.choice-index c.loop-choice-test.false c.loop-choice.invariant.whole in
-    let width : c.width.result ≡ c.args.problem.now.costs.width = c.width.ensures.width ∙ ap (λ (v : CostTable). v.width) c.costs-costs.ensures in
-    let counts : length (issued c.loop-choice.issue.pushes) ≡ c.loop-choice.choice-index = c.loop-choice.invariant.count in
-    let many : length (issued c.loop-choice.issue.pushes) ≡ length c.args.schedule.now = omega arith in
-    c.stalls-stalls.ensures (issued c.loop-choice.issue.pushes) many (sym c.cycles-count.ensures.cycles)
-    ∙ ap₂ (λ w done. stalls w done) width issued_all
+pub returns-clause-issued : goal.returns-clause-issued
+returns-clause-issued c =
+    timed-done c.args.problem.now.costs (sources_in c.args.problem.now) c.args.schedule.now (issued c.loop-choice.issue.pushes)
+    (timed c.args.problem.now.costs (sources_in c.args.problem.now) c.args.schedule.now)
+    c.loop-choice.choice-index c.loop-choice-test.false c.loop-choice.invariant.whole
