@@ -1,28 +1,24 @@
--- AArch64 as an instruction set: how its instructions are read and printed, and which of them make a counter's steps. Source:
--- this project's own format, over the forms of the document.
+-- AArch64 as an instruction set: how its instructions are read and printed, and which of them make
+-- a counter's steps. Source: this project's own format, over the forms of the document.
 use Rattle.std.specs.Prelude.{ℕ, pos, false, [], ◌∷◌, Option, None, Some}
 use Rattle.sl_model.specs.declared.register.Reg.{Reg}
 use Rattle.sl_model.specs.declared.instruction.Instr.{Instr}
 use Rattle.sl_model.specs.declared.instruction.ArchName.TheVariants.{Arm64}
-use Rattle.sl_model.specs.Isa.{Isa}
 use Rattle.sl_isa.specs.declared.arch.CounterOp.{CounterOp}
 use Rattle.sl_isa.specs.declared.arch.CounterOp.TheVariants.{Sub, Subs, Lsr}
-use Rattle.sl_isa.specs.Arch.{flags_register, Language}
-use Rattle.form_table.specs.Reads.{reads}
-use Rattle.form_table.specs.Printed.{printed}
-use Rattle.form_isa.specs.TableIsa.{table_isa}
+use Rattle.sl_isa.specs.Steps.{flags_register}
+use Rattle.sl_isa.specs.Language.{Language}
+use Rattle.form_isa.specs.TableIsa.{table_language}
 use Rattle.arm64_table.specs.Document.{document}
 
--- the instruction set of the document
-unfoldable pub arm64_isa : Isa
-arm64_isa = table_isa Arm64 document
-
--- the form of a counter's step: sub and subs of an X register and a number, and lsr of an X register
+-- the form of a counter's step: sub and subs of an X register and a
+-- number, and lsr of an X register
 abbrev pub step_form : CounterOp → ℕ
 step_form (Sub number) = 20
 step_form Subs = 44
 step_form (Lsr by) = 122
 
+-- its number
 abbrev pub step_number : CounterOp → ℕ
 step_number (Sub number) = number
 step_number Subs = 1
@@ -48,6 +44,6 @@ arm64_step op counter line = record {
   line = line;
 }
 
--- AArch64: its instructions, how they are read and printed, and a counter's steps
+-- AArch64: the language of the document
 unfoldable pub arm64 : Language
-arm64 = record { isa = arm64_isa; reads = reads document; printed = printed document; step_of = arm64_step }
+arm64 = table_language Arm64 document arm64_step

@@ -1,6 +1,6 @@
--- The forms of AArch64 that are read, family by family: their spellings, the numbers and registers that they take, their
--- cost classes and their meanings. Source: DDI 0487, A64 base and Advanced SIMD instructions; which forms, ranges and places
--- of the zero register are taken is a profile.
+-- The forms of AArch64 that are read, family by family: their spellings, the numbers and registers
+-- that they take, their cost classes and their meanings. Source: DDI 0487, A64 base and Advanced
+-- SIMD instructions; which forms, ranges and places of the zero register are taken is a profile.
 use Rattle.std.specs.Prelude.{ℕ, pos, ◌+◌, ◌-◌, ◌*◌, ◌^◌, Bool, true, false, List, [], ◌∷◌, ◌++◌, codes, slice_index_or}
 use Rattle.sl_model.specs.declared.register.RegSet.{RegSet}
 use Rattle.sl_isa.specs.Arch.{padded_values}
@@ -44,19 +44,23 @@ use Rattle.form_table.specs.declared.rows.Sum.TheVariants as total
 use Rattle.form_table.specs.declared.rows.Alias.TheVariants as alias
 use Rattle.form_table.specs.declared.rows.Row.{Row}
 
--- no register; x0 to x30; these and the zero register; v0 to v31; v0 to v15
+-- no register
 abbrev pub no_register : RegSet
 no_register = record { bits = 0 }
 
+-- x0 to x30
 abbrev pub general : RegSet
 general = record { bits = 2 ^ 31 - 1 }
 
+-- x0 to x30 and the zero register
 abbrev pub general_or_zero : RegSet
 general_or_zero = record { bits = 2 ^ 32 - 1 }
 
+-- v0 to v31
 abbrev pub vectors : RegSet
 vectors = record { bits = (2 ^ 32 - 1) * 2 ^ 32 }
 
+-- v0 to v15
 abbrev pub low_vectors : RegSet
 low_vectors = record { bits = (2 ^ 16 - 1) * 2 ^ 32 }
 
@@ -64,16 +68,19 @@ low_vectors = record { bits = (2 ^ 16 - 1) * 2 ^ 32 }
 abbrev pub range : ℕ → ℕ → ℕ → Range
 range least most step = record { least = pos least; most = pos most; step = step }
 
--- operands: none, one with a register, one with a number, one with both
+-- no operand
 abbrev pub none : Operand
 none = record { shape = shape.Nothing; role = In; class = no_register; range = range 0 0 1 }
 
+-- an operand that is a register
 abbrev pub register : Shape → Role → RegSet → Operand
 register shape role class = record { shape = shape; role = role; class = class; range = range 0 0 1 }
 
+-- an operand that is a number
 abbrev pub numeral : Shape → Range → Operand
 numeral shape range = record { shape = shape; role = In; class = no_register; range = range }
 
+-- an operand that is a lane of a register, with indices from 0 to a last one
 abbrev pub lane_of : Name → Role → RegSet → ℕ → Operand
 lane_of name role class most = record { shape = shape.Lane name; role = role; class = class; range = range 0 most 1 }
 
@@ -98,62 +105,80 @@ row mnemonic operands reads sets class meaning = record {
   alias = alias.Own;
 }
 
--- the same that is kept as another form: with the same operands, or without the number at a place where it is 0
+-- the same, kept as another form with the same operands
 abbrev pub kept_as : Row → ℕ → Row
 kept_as r form = record r { alias = alias.As form }
 
+-- the same, kept as another form without the number at a place where that number is 0
 abbrev pub without_zero : Row → ℕ → ℕ → Row
 without_zero r form place = record r { alias = alias.ZeroAs form place }
 
--- the classes: alu, alus, mul, valu, vshift, vmul, vperm, vxfer
+-- The cost classes. This one is that of sums, bitwise operations, moves and choices.
 abbrev pub alu : ℕ
 alu = 0
 
+-- sums and bitwise operations with a shift, shifts and parts of registers
 abbrev pub alus : ℕ
 alus = 1
 
+-- products
 abbrev pub mul : ℕ
 mul = 2
 
+-- sums, bitwise operations and copies of lanes
 abbrev pub valu : ℕ
 valu = 5
 
+-- shifts of lanes, and their low halves
 abbrev pub vshift : ℕ
 vshift = 6
 
+-- products of lanes
 abbrev pub vmul : ℕ
 vmul = 7
 
+-- lanes in another order, or in the place of others
 abbrev pub vperm : ℕ
 vperm = 8
 
+-- lanes from general registers and to them
 abbrev pub vxfer : ℕ
 vxfer = 9
 
--- Scalar operands: R is X or W. The zero register is no output, and an input only where `any` stands.
+-- Scalar operands: R is X or W. The zero register is no output, and an
+-- input only where `any` stands.
+
+-- the letter of a size
 abbrev pub letter_of : Size → Letter
 letter_of Bits64 = letter.X
 letter_of Bits32 = letter.W
 
+-- the place of the highest bit
 abbrev pub last_bit : Size → ℕ
 last_bit Bits64 = 63
 last_bit Bits32 = 31
 
+-- Rd, which is written
 abbrev pub to : Size → Operand
 to size = register (shape.Register (letter_of size)) Out general
 
+-- Rd, which is read and written
 abbrev pub tied : Size → Operand
 tied size = register (shape.Register (letter_of size)) Tied general
 
+-- Rn, which isn't the zero register
 abbrev pub from : Size → Operand
 from size = register (shape.Register (letter_of size)) In general
 
+-- Rn or Rm, which may be the zero register
 abbrev pub any : Size → Operand
 any size = register (shape.Register (letter_of size)) In general_or_zero
 
+-- a number of a range
 abbrev pub number : Range → Operand
 number range = numeral shape.Number range
 
+-- a shift by a number of a range, such as `lsl #k`
 abbrev pub shifted : Name → Range → Operand
 shifted name range = numeral (shape.Shift name) range
 
@@ -161,11 +186,14 @@ shifted name range = numeral (shape.Shift name) range
 abbrev pub amount : Size → Range
 amount size = range 0 (last_bit size) 1
 
+-- the rows for X, then those for W
 abbrev pub both : (Size → List Row) → List Row
 both rows = rows Bits64 ++ rows Bits32
 
+-- a row with a scalar meaning
 abbrev pub scalar_row : List ℕ → List Operand → Bool → Bool → ℕ → Scalar → Size → Row
-scalar_row mnemonic operands reads sets class op size = row mnemonic operands reads sets class (meaning.Scalar op size)
+scalar_row mnemonic operands reads sets class op size =
+    row mnemonic operands reads sets class (meaning.Scalar op size)
 
 -- a scalar row that has nothing to do with the flags
 abbrev pub plain : List ℕ → List Operand → ℕ → Scalar → Size → Row
@@ -173,11 +201,15 @@ plain mnemonic operands class op size = scalar_row mnemonic operands false false
 
 -- add, sub, adds, subs Rd, Rn, Rm {, lsl/lsr/asr #k}, the first of these with a number
 abbrev pub sum_row : List ℕ → List Operand → Bool → Bool → ℕ → Second → Size → Row
-sum_row mnemonic operands minus flags class second size = scalar_row mnemonic operands false flags class (scalar.Sum minus second false flags) size
+sum_row mnemonic operands minus flags class second size =
+    scalar_row mnemonic operands false flags class (scalar.Sum minus second false flags) size
 
+-- one of these with a shift
 abbrev pub shifted_sum : List ℕ → Bool → Bool → Name → Shift → Size → Row
 shifted_sum mnemonic minus flags name by size = sum_row mnemonic (to size ∷ any size ∷ any size ∷ shifted name (amount size) ∷ []) minus flags alus (second.Shifted by) size
 
+-- for one size: without shift, then with each of three shifts; lsl by 0 is kept as the form with
+-- this number
 abbrev pub sums_of : List ℕ → Bool → Bool → ℕ → Size → List Row
 sums_of mnemonic minus flags form size =
     sum_row mnemonic (to size ∷ any size ∷ any size ∷ []) minus flags alu second.Register size
@@ -186,8 +218,10 @@ sums_of mnemonic minus flags form size =
     ∷ shifted_sum mnemonic minus flags name.Asr shift.Asr size
     ∷ []
 
+-- for both sizes, where the first row has this number
 abbrev pub sums : List ℕ → Bool → Bool → ℕ → List Row
-sums mnemonic minus flags form = sums_of mnemonic minus flags form Bits64 ++ sums_of mnemonic minus flags (form + 4) Bits32
+sums mnemonic minus flags form =
+    sums_of mnemonic minus flags form Bits64 ++ sums_of mnemonic minus flags (form + 4) Bits32
 
 -- add, sub, adds, subs Rd, Rn, #i {, lsl #12}
 abbrev pub number_sums : List ℕ → Bool → Bool → List Row
@@ -201,10 +235,12 @@ abbrev pub carried : List ℕ → Bool → Bool → List Row
 carried mnemonic minus flags = both (λ size.
     scalar_row mnemonic (to size ∷ any size ∷ any size ∷ []) true flags alu (scalar.Sum minus second.Register true flags) size ∷ [])
 
--- and, orr, eor, bic Rd, Rn, Rm {, lsl/lsr/asr/ror #k}
+-- and, orr, eor, bic Rd, Rn, Rm, lsl/lsr/asr/ror #k
 abbrev pub shifted_logic : List ℕ → Logic → Name → Shift → Size → Row
 shifted_logic mnemonic op name by size = plain mnemonic (to size ∷ any size ∷ any size ∷ shifted name (amount size) ∷ []) alus (scalar.Logic op (second.Shifted by)) size
 
+-- for one size: without shift, then with each of four shifts; lsl by 0 is kept as the form with
+-- this number
 abbrev pub logic_of : List ℕ → Logic → ℕ → Size → List Row
 logic_of mnemonic op form size =
     plain mnemonic (to size ∷ any size ∷ any size ∷ []) alu (scalar.Logic op second.Register) size
@@ -214,6 +250,7 @@ logic_of mnemonic op form size =
     ∷ shifted_logic mnemonic op name.Ror shift.Ror size
     ∷ []
 
+-- for both sizes, where the first row has this number
 abbrev pub logics : List ℕ → Logic → ℕ → List Row
 logics mnemonic op form = logic_of mnemonic op form Bits64 ++ logic_of mnemonic op (form + 5) Bits32
 
@@ -221,6 +258,7 @@ logics mnemonic op form = logic_of mnemonic op form Bits64 ++ logic_of mnemonic 
 abbrev pub wide_shift : Size → Operand
 wide_shift size = shifted name.Lsl (range 0 (last_bit size - 15) 16)
 
+-- for one size: without lsl, then with it; lsl by 0 is kept as the form with this number
 abbrev pub wide : List ℕ → (Size → Operand) → Scalar → ℕ → Size → List Row
 wide mnemonic target op form size =
     plain mnemonic (target size ∷ number (range 0 65535 1) ∷ []) alu op size
@@ -231,13 +269,16 @@ wide mnemonic target op form size =
 abbrev pub moved_number : ℕ → Size → Row
 moved_number form size = kept_as (plain (codes "mov") (to size ∷ number (range 0 65535 1) ∷ []) alu scalar.Wide size) form
 
--- mul, madd, msub, and those of twice as many bits
+-- mul Rd, Rn, Rm; madd, msub Rd, Rn, Rm, Ra
 abbrev pub products : List ℕ → Product → List Operand → Size → Row
-products mnemonic product more size = plain mnemonic (to size ∷ any size ∷ any size ∷ more) mul (scalar.Multiply product) size
+products mnemonic product more size =
+    plain mnemonic (to size ∷ any size ∷ any size ∷ more) mul (scalar.Multiply product) size
 
+-- umulh, smulh Xd, Xn, Xm
 abbrev pub high_product : List ℕ → Bool → Row
 high_product mnemonic signed = plain mnemonic (to Bits64 ∷ any Bits64 ∷ any Bits64 ∷ []) mul (scalar.MultiplyHigh signed) Bits64
 
+-- umull, smull Xd, Wn, Wm
 abbrev pub long_product : List ℕ → Bool → Row
 long_product mnemonic signed = plain mnemonic (to Bits64 ∷ any Bits32 ∷ any Bits32 ∷ []) mul (scalar.MultiplyLong signed) Bits64
 
@@ -253,6 +294,7 @@ field size = record (plain (codes "ubfx") (to size ∷ from size ∷ number (amo
 abbrev pub select : Size → Row
 select size = scalar_row (codes "csel") (to size ∷ any size ∷ any size ∷ numeral shape.Condition (range 0 13 1) ∷ []) true false alu scalar.Select size
 
+-- the scalar forms, in their order
 abbrev pub scalar_rows : List Row
 scalar_rows =
     sums (codes "add") false false 0 ++ (sums (codes "sub") true false 8
@@ -275,6 +317,8 @@ scalar_rows =
     ++ (both (λ size. field size ∷ []) ++ both (λ size. select size ∷ [])))))))))))))))))))))))))))))))))
 
 -- Vector operands, by their arrangements and by their lanes.
+
+-- the name of an arrangement
 abbrev pub arrangement_name : Arrangement → Name
 arrangement_name Bytes8 = name.Lanes8b
 arrangement_name Bytes16 = name.Lanes16b
@@ -284,6 +328,7 @@ arrangement_name Words2 = name.Lanes2s
 arrangement_name Words4 = name.Lanes4s
 arrangement_name Doubles2 = name.Lanes2d
 
+-- the bits of a lane of an arrangement
 abbrev pub lane_bits : Arrangement → ℕ
 lane_bits Bytes8 = 8
 lane_bits Bytes16 = 8
@@ -293,6 +338,7 @@ lane_bits Words2 = 32
 lane_bits Words4 = 32
 lane_bits Doubles2 = 64
 
+-- the letter of a lane
 abbrev pub lane_name : Lane → Name
 lane_name Byte = name.LaneB
 lane_name Half = name.LaneH
@@ -316,9 +362,11 @@ lane_in Words2 = Word
 lane_in Words4 = Word
 lane_in Doubles2 = Double
 
+-- Vd.T, Vn.T or Vm.T, by its role
 abbrev pub lanes : Role → Arrangement → Operand
 lanes role t = register (shape.Lanes (arrangement_name t)) role vectors
 
+-- Vd.e[i] or Vn.e[i], by its role
 abbrev pub lane : Role → Lane → Operand
 lane role e = lane_of (lane_name e) role vectors (last_lane e)
 
@@ -332,22 +380,27 @@ abbrev pub general_size : Lane → Size
 general_size Double = Bits64
 general_size e = Bits32
 
+-- a row with a vector meaning
 abbrev pub vector_row : List ℕ → List Operand → ℕ → Vector → Row
 vector_row mnemonic operands class op = row mnemonic operands false false class (meaning.Vector op)
 
--- the arrangements
+-- the arrangements of bytes
 abbrev pub bytes : List Arrangement
 bytes = Bytes8 ∷ Bytes16 ∷ []
 
+-- those of halfwords and of words
 abbrev pub halves_and_words : List Arrangement
 halves_and_words = Halves4 ∷ Halves8 ∷ Words2 ∷ Words4 ∷ []
 
+-- all but 2d
 abbrev pub but_doubles : List Arrangement
 but_doubles = bytes ++ halves_and_words
 
+-- all of them
 abbrev pub all : List Arrangement
 all = but_doubles ++ Doubles2 ∷ []
 
+-- the lanes, from the smallest on
 abbrev pub all_lanes : List Lane
 all_lanes = Byte ∷ Half ∷ Word ∷ Double ∷ []
 
@@ -364,46 +417,54 @@ lanewise mnemonic op role class ts = each (λ t. vector_row mnemonic (lanes role
 abbrev pub by_element : List ℕ → LaneOp → Role → List Row
 by_element mnemonic op role = each (λ t. vector_row mnemonic (lanes role t ∷ lanes In t ∷ element (lane_in t) ∷ []) vmul (vector.ByElement op t)) halves_and_words
 
--- op Vd.Ta, Vn.Tb, Vm.Tb, where lanes of Ta have twice the bits of those of Tb
+-- op Vd.Ta, Vn.Tb, Vm.Tb, where lanes of Ta have twice the bits of those of
+-- Tb: this is Tb for the low half
 abbrev pub narrow_low : Arrangement → Arrangement
 narrow_low Halves8 = Bytes8
 narrow_low Words4 = Halves4
 narrow_low _ = Words2
 
+-- the same of the high half, which is named by the whole register
 abbrev pub narrow_high : Arrangement → Arrangement
 narrow_high Halves8 = Bytes16
 narrow_high Words4 = Halves8
 narrow_high _ = Words4
 
+-- Tb, for the high half or for the low one
 abbrev pub narrow_of : Bool → Arrangement → Arrangement
 narrow_of false t = narrow_low t
 narrow_of true t = narrow_high t
 
+-- Vd is also read where the product is added to it
 abbrev pub target : Bool → Role
 target false = Out
 target true = Tied
 
+-- the rows of a long product, for each Ta
 abbrev pub long : List ℕ → Bool → Bool → Bool → List Row
 long mnemonic signed adds high =
     each (λ t. vector_row mnemonic (lanes (target adds) t ∷ lanes In (narrow_of high t) ∷ lanes In (narrow_of high t) ∷ []) vmul (vector.Long signed adds high t))
     (Halves8 ∷ Words4 ∷ Doubles2 ∷ [])
 
--- op Vd.T, Vn.T, #k: to the left by less than the bits of a lane, to the right by 1 to all of them
+-- op Vd.T, Vn.T, #k: to the left, by less than the bits of a lane
 abbrev pub left_shifts : List ℕ → LaneShift → Role → List Row
 left_shifts mnemonic op role = each (λ t. vector_row mnemonic (lanes role t ∷ lanes In t ∷ number (range 0 (lane_bits t - 1) 1) ∷ []) vshift (vector.Shift op t)) all
 
+-- to the right, by 1 to all the bits of a lane
 abbrev pub right_shifts : List ℕ → LaneShift → Role → List Row
 right_shifts mnemonic op role = each (λ t. vector_row mnemonic (lanes role t ∷ lanes In t ∷ number (range 1 (lane_bits t) 1) ∷ []) vshift (vector.Shift op t)) all
 
--- xtn Vd.Ta, Vn.Tb, where lanes of Tb have twice the bits of those of Ta
+-- xtn Vd.Ta, Vn.Tb, where lanes of Tb have twice the bits of those of Ta: this is Tb
 abbrev pub wide_of : Arrangement → Arrangement
 wide_of Bytes8 = Halves8
 wide_of Halves4 = Words4
 wide_of _ = Doubles2
 
+-- xtn, for each Ta
 abbrev pub narrowed : List Row
 narrowed = each (λ t. vector_row (codes "xtn") (lanes Out t ∷ lanes In (wide_of t) ∷ []) vshift (vector.Narrow t)) (Bytes8 ∷ Halves4 ∷ Words2 ∷ [])
 
+-- op Vd.T, Vn.T, Vm.T: lanes of both in another order
 abbrev pub permuted : List ℕ → Permutation → List Row
 permuted mnemonic op = each (λ t. vector_row mnemonic (lanes Out t ∷ lanes In t ∷ lanes In t ∷ []) vperm (vector.Permute op t)) all
 
@@ -411,18 +472,22 @@ permuted mnemonic op = each (λ t. vector_row mnemonic (lanes Out t ∷ lanes In
 abbrev pub extracted : Arrangement → ℕ → Row
 extracted t most = vector_row (codes "ext") (lanes Out t ∷ lanes In t ∷ lanes In t ∷ number (range 0 most 1) ∷ []) vperm (vector.Extract t)
 
--- dup Vd.T, Rn; ins Vd.e[i], Rn; ins Vd.e[i], Vn.e[j]; umov Rd, Vn.e[i]
+-- dup Vd.T, Rn
 abbrev pub dup_general : Arrangement → Row
 dup_general t = vector_row (codes "dup") (lanes Out t ∷ from (general_size (lane_in t)) ∷ []) vxfer (vector.DupGeneral t)
 
+-- ins Vd.e[i], Rn
 abbrev pub insert_general : Lane → Row
 insert_general e = vector_row (codes "ins") (lane Tied e ∷ from (general_size e) ∷ []) vxfer (vector.InsertGeneral e)
 
+-- ins Vd.e[i], Vn.e[j]
 abbrev pub insert_lane : Lane → Row
 insert_lane e = vector_row (codes "ins") (lane Tied e ∷ lane In e ∷ []) vperm (vector.InsertLane e)
 
+-- umov Rd, Vn.e[i]
 abbrev pub move_out : Lane → Row
-move_out e = vector_row (codes "umov") (to (general_size e) ∷ lane In e ∷ []) vxfer (vector.MoveOut e)
+move_out e =
+    vector_row (codes "umov") (to (general_size e) ∷ lane In e ∷ []) vxfer (vector.MoveOut e)
 
 -- sums, bitwise operations and products of lanes
 abbrev pub lane_sum_rows : List Row

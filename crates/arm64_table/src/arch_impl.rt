@@ -1,12 +1,9 @@
 //! AArch64 as an architecture.
 ghost use Rattle.std.specs.Prelude.{◌≡◌, pos, slice_get};
-ghost use Rattle.form_table.specs.Reads.{reads};
-ghost use Rattle.form_table.specs.Printed.{printed};
 ghost use Rattle.form_isa.specs.Info.{info_at};
 ghost use Rattle.arm64_table.specs.Document.{document};
-ghost use Rattle.arm64_table.specs.Arm64.{arm64_isa, arm64_step, step_form, step_number, step_flags};
-ghost use Rattle.arm64_table.specs.Laws.{arm64_lawful, arm64_reads_valid, arm64_reads_again};
-ghost use Rattle.arm64_table.specs.Steps.{arm64_steps};
+ghost use Rattle.arm64_table.specs.Arm64.{arm64, arm64_step, step_form, step_number, step_flags};
+ghost use Rattle.arm64_table.specs.Laws.{arm64_lawful};
 
 use crate::rows::table;
 use crate::{Arm64, executing, reading};
@@ -17,15 +14,9 @@ use sl_isa::{
 use sl_text::Token;
 use std::alloc::Global;
 
-#[tactic(auto, unfolding(crate::specs::Arm64::arm64_isa, crate::specs::Arm64::arm64_step, form_isa::specs::TableIsa::table_isa, sl_isa::specs::Arch::padded_values), using(crate::proofs::Accesses::no_access, crate::proofs::Accesses::nothing_stored))]
+#[tactic(auto, unfolding(crate::specs::Arm64::arm64, crate::specs::Arm64::arm64_step, form_isa::specs::TableIsa::table_language, form_isa::specs::TableIsa::table_isa, sl_isa::specs::Arch::padded_values), using(crate::proofs::Accesses::no_access, crate::proofs::Accesses::nothing_stored))]
 impl Arch for Arm64 {
-    ghost isa = { arm64_isa };
-
-    ghost step_of = { arm64_step };
-
-    ghost reads = { reads document };
-
-    ghost printed = { printed document };
+    ghost language = { arm64 };
 
     fn name(&self) -> ArchName {
         ArchName::Arm64
@@ -73,12 +64,6 @@ impl Arch for Arm64 {
     }
 
     ghost lawful = { arm64_lawful };
-
-    ghost reads_valid = { arm64_reads_valid };
-
-    ghost reads_again = { arm64_reads_again };
-
-    ghost steps = { arm64_steps };
 }
 
 // What the table says of a form, and nothing of one that isn't there.
@@ -102,7 +87,8 @@ fn info_of(form: u16) -> FormInfo
     form_isa::info_of(row)
 }
 
-// The form of a counter's step: `sub` and `subs` of an X register and a number, and `lsr` of an X register.
+// The form of a counter's step: `sub` and `subs` of an X register and a
+// number, and `lsr` of an X register.
 fn step_form(op: CounterOp) -> u16
     ensures { result ≡ step_form op }
 {

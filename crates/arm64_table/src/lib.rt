@@ -3,12 +3,8 @@
 
 mod arch_impl;
 mod executing;
-#[cfg(test)]
-mod meaning_tests;
 mod reading;
 mod rows;
-#[cfg(test)]
-mod spelling_tests;
 
 /// AArch64.
 #[derive(Clone, Copy, Debug)]

@@ -1,4 +1,5 @@
-//! The forms of AArch64, each a row. A new form is one more row at the end, and one more in the document of `specs/`.
+//! The forms of AArch64, each a row. A new form is one more row at the end, and one
+//! more in the document of `specs/`.
 ghost use Rattle.std.specs.Prelude.{◌≡◌, true, length};
 ghost use Rattle.form_table.specs.Tables.{is_readable};
 ghost use Rattle.form_table.specs.TableRows.{rows_of};
@@ -284,8 +285,9 @@ macro_rules! lane {
     ($op:ident, $lane:ident) => { Meaning::Vector(Vector::$op { lane: Lane::$lane }) };
 }
 
-// A row: whether it reads and sets the flags, its mnemonic filled up with zeros, its two to four operands, its class and its
-// meaning. It is printed as itself, and takes any sum of its numbers, unless it says otherwise behind these.
+// A row: whether it reads and sets the flags, its mnemonic filled up with zeros, its two to four
+// operands, its class and its meaning. It is printed as itself, and takes any sum of its numbers,
+// unless it says otherwise behind these.
 macro_rules! form {
     ($reads:expr, $sets:expr, $word:literal => [$a:ident, $b:ident], $($rest:tt)*) => {
         kept_form!($reads, $sets, $word, [$a, $b, NONE, NONE], $($rest)*)
@@ -332,7 +334,8 @@ macro_rules! whole_form {
     };
 }
 
-// A form that has nothing to do with the flags, one that sets them, one that reads them, and one that does both.
+// A form that has nothing to do with the flags, one that sets them, one that
+// reads them, and one that does both.
 macro_rules! row {
     ($($part:tt)*) => { form!(false, false, $($part)*) };
 }
@@ -747,7 +750,8 @@ pub(crate) fn table() -> Table<'static>
     }
 }
 
-/// The table can be read and printed: no two rows fit the same words, and what is printed is read by its own row.
+/// The table can be read and printed: no two rows fit the same words, and what is
+/// printed is read by its own row.
 pub(crate) fn is_readable()
     ensures { is_readable document ≡ true }
 {}

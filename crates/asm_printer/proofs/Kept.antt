@@ -1,5 +1,5 @@
 -- Where each output is final in its own register, a legal schedule of a straight list keeps each item as it is.
-use Rattle.std.proofs.Common.{◌≡◌, ℕ, zero, suc, ◌<◌, true, false, eqb, List, [], ◌∷◌, length, map, take, reverse, slice_get, filter_map, Option, Some, option_map, Result, if◌then◌else◌, refl, sym, ap, ◌∙◌, subst, arith, eqb-true}
+use Rattle.std.proofs.Common.{◌≡◌, ℕ, zero, suc, ◌<◌, true, false, eqb, List, [], ◌∷◌, length, map, take, reverse, slice_get, filter_map, Option, Some, option_map, if◌then◌else◌, refl, sym, ap, ◌∙◌, subst, arith, eqb-true}
 use Rattle.std.specs.List.{cons_option}
 use Rattle.std.proofs.lemmas.List.{get_or-take, length-take}
 use Rattle.std.proofs.lemmas.Option.{slice_get-map}
@@ -9,18 +9,16 @@ use Rattle.sl_model.specs.declared.schedule.Choice.{Choice}
 use Rattle.sl_model.specs.declared.schedule.Source.{Source}
 use Rattle.sl_model.specs.declared.schedule.Source.TheVariants.{Entry, Item}
 use Rattle.sl_model.specs.Source.{operands, outputs, padded, item_at, no_instr, source_of, list_sources}
-use Rattle.sl_model.specs.Token.{Lexeme}
 use Rattle.sl_model.specs.Cycles.{CostTable}
 use Rattle.sl_model.specs.Isa.{Isa}
 use Rattle.sl_model.specs.Body.{chosen, placed_in, given, applied_item, applied_from, applied}
 use Rattle.sl_model.specs.Lawful.{IsValid}
 use Rattle.sl_model.specs.Legal.{Problem, IsLegalNext, IsLegalFrom, body_of, sources_in, straight_problem}
-use Rattle.sl_isa.specs.declared.reasons.FormReason.{FormReason}
+use Rattle.sl_isa.specs.Language.{Reads}
 use Rattle.legal_space.specs.Listing.{IsListable}
-use Rattle.legal_space.proofs.Forced.{known-item, forced-registers, forced-choice}
+use Rattle.legal_space.proofs.ForCallers.{known-item, forced-registers, forced-choice}
 use Rattle.renamer.specs.Faithful.{IsSound}
-use Rattle.renamer.proofs.LegalityRules.{suits_operands}
-use Rattle.renamer.proofs.StraightPosed.{Makes, makes-last, straight_sources, straight-sound}
+use Rattle.renamer.proofs.ForCallers.{suits_operands, Makes, makes-last, straight_sources, straight-sound}
 use Rattle.asm_printer.specs.ReadBack.{WasRead, AreRead}
 
 -- Each choice has taken the registers of its item's outputs.
@@ -66,7 +64,7 @@ given-all f done (r ∷ regs) each =
     ∙ ap (λ rest. r ∷ rest) (given-all f done regs (λ k q at. each (suc k) q at))
 
 -- an item that was read
-pub read-at : (reads : List Lexeme → Result Instr FormReason) (items : List Instr) (p : ℕ) → AreRead reads items → p < length items → WasRead reads (item_at items p)
+pub read-at : (reads : Reads) (items : List Instr) (p : ℕ) → AreRead reads items → p < length items → WasRead reads (item_at items p)
 read-at reads [] p read within = absurd (omega arith)
 read-at reads (i ∷ items) zero read within = read.0
 read-at reads (i ∷ items) (suc p) read within = read-at reads items p read.1 (omega arith)
@@ -113,7 +111,7 @@ module _ (isa : Isa) (items : List Instr) (live free : List Reg) (costs : CostTa
   kept-all schedule legal = kept-from [] schedule tt legal
 
   -- where the items were read, those of the choices were
-  read-from : (reads : List Lexeme → Result Instr FormReason) (done choices : List Choice) → AreRead reads items → IsLegalFrom isa (straight_problem items live free costs) done choices → AreRead reads (items_of items choices)
+  read-from : (reads : Reads) (done choices : List Choice) → AreRead reads items → IsLegalFrom isa (straight_problem items live free costs) done choices → AreRead reads (items_of items choices)
   read-from reads done [] read legal = tt
   read-from reads done (c ∷ choices) read legal = (
     read-at reads items c.item read (known-item isa (straight_problem items live free costs) listable c.item legal.0.of.known),
@@ -121,5 +119,5 @@ module _ (isa : Isa) (items : List Instr) (live free : List Reg) (costs : CostTa
   )
 
   -- The instructions of a legal schedule were read.
-  pub applied-read : (reads : List Lexeme → Result Instr FormReason) (schedule : List Choice) → AreRead reads items → IsLegalFrom isa (straight_problem items live free costs) [] schedule → AreRead reads (applied (body_of (straight_problem items live free costs)) schedule)
+  pub applied-read : (reads : Reads) (schedule : List Choice) → AreRead reads items → IsLegalFrom isa (straight_problem items live free costs) [] schedule → AreRead reads (applied (body_of (straight_problem items live free costs)) schedule)
   applied-read reads schedule read legal = subst (AreRead reads) (sym (kept-all schedule legal)) (read-from reads [] schedule read legal)

@@ -1,5 +1,8 @@
+pub mod ForCallers
 pub mod PrintedText
 pub mod Kept
+pub mod LineTokens
+pub mod ReadLines
 pub mod Entries
 pub mod Listable
 pub mod WrittenRegion

@@ -1,43 +1,34 @@
 -- The straight problem of items whose outputs are the last ones in their registers, all live-out, can be listed.
-use Rattle.std.proofs.Common.{◌≡◌, ℕ, zero, suc, ◌+◌, ◌<◌, ◌≤◌, Bool, true, ◌&&◌, nat_le, List, [], ◌∷◌, length, reverse, take, slice_get, filter_map, inl, inr, Option, None, Some, Result, refl, sym, ap, ◌∙◌, subst, ⊎_elim, arith}
-use Rattle.std.specs.List.{list_any, list_all, enumerate_from, flat_map, cons_option}
-use Rattle.std.proofs.lemmas.Bool.{or_left, or_right}
+use Rattle.std.proofs.Common.{◌≡◌, ℕ, zero, suc, ◌+◌, ◌<◌, ◌≤◌, Bool, true, ◌&&◌, nat_le, List, [], ◌∷◌, length, slice_get, inl, inr, Some, refl, sym, ap, ◌∙◌, subst, ⊎_elim, arith}
+use Rattle.std.specs.List.{list_any, list_all, enumerate_from, flat_map}
+use Rattle.std.proofs.lemmas.Bool.{or_left, or_right, and_from}
 use Rattle.std.proofs.lemmas.Bool.Decides.{nat_tests}
-use Rattle.std.proofs.lemmas.List.{length-map}
-use Rattle.std.proofs.lemmas.List.Folds.{list_all-append, list_all-map}
+use Rattle.std.proofs.lemmas.List.Folds.{list_all-map}
 use Rattle.std.proofs.lemmas.Option.{get_or_from_slice_get}
 use Rattle.sl_model.specs.declared.register.Reg.{Reg}
 use Rattle.sl_model.specs.declared.instruction.Instr.{Instr}
 use Rattle.sl_model.specs.declared.schedule.Source.{Source}
 use Rattle.sl_model.specs.declared.schedule.Source.TheVariants.{Item}
 use Rattle.sl_model.specs.Register.{same_reg}
-use Rattle.sl_model.specs.Source.{operands, outputs, padded, item_at, source_of, list_sources, last_source}
-use Rattle.sl_model.specs.Token.{Lexeme}
+use Rattle.sl_model.specs.Source.{outputs, item_at, list_sources, last_source}
 use Rattle.sl_model.specs.Cycles.{CostTable}
 use Rattle.sl_model.specs.Isa.{Isa}
 use Rattle.sl_model.specs.Body.{same_source}
-use Rattle.sl_model.specs.Lawful.{IsValid}
+use Rattle.sl_model.specs.Lawful.{AreValid}
 use Rattle.sl_model.specs.Legal.{numbers_below, is_final_in, written, straight_problem}
-use Rattle.sl_isa.specs.declared.reasons.FormReason.{FormReason}
-use Rattle.legal_space.specs.Testable.{AreValid}
+use Rattle.sl_isa.specs.Language.{Language, IsLanguage, is_concrete}
 use Rattle.legal_space.specs.Listing.{IsListable, are_outputs_final, are_known_sources}
 use Rattle.legal_space.specs.Timed.{is_known_source}
-use Rattle.legal_space.proofs.Members.{Has, has-filter, has-flat_map, passes, length-numbers}
-use Rattle.legal_space.proofs.StraightLemmas.{straight-known}
-use Rattle.renamer.proofs.OrderState.{same_reg-refl}
-use Rattle.renamer.proofs.OwnTests.{both, list_any-map, same_source-refl}
-use Rattle.renamer.proofs.StraightNumbers.{at-below}
-use Rattle.renamer.proofs.StraightPosed.{straight_sources}
-use Rattle.asm_printer.specs.ReadBack.{AreRead, AreLast, IsPrintable, is_concrete}
+use Rattle.sl_laws.proofs.Members.{Has, has-filter, has-flat_map, passes}
+use Rattle.sl_laws.proofs.Numbers.{length-numbers, at-below, all-below}
+use Rattle.legal_space.proofs.ForCallers.{straight-known}
+use Rattle.sl_laws.proofs.Registers.{same_reg-refl}
+use Rattle.sl_laws.proofs.Elements.{list_any-map}
+use Rattle.sl_laws.proofs.Sources.{same_source-refl, length-list_sources}
+use Rattle.renamer.proofs.ForCallers.{straight_sources}
+use Rattle.asm_printer.specs.ReadBack.{AreRead, AreLast}
 use Rattle.asm_printer.proofs.Kept.{read-at}
-
--- what holds of each number below another
-pub all-below : (p : ℕ → Bool) (n : ℕ) → ((k : ℕ) → k < n → p k ≡ true) → list_all p (numbers_below n) ≡ true
-unfolding numbers_below
-all-below p zero each = refl
-all-below p (suc n) each =
-    list_all-append p (numbers_below n) (n ∷ [])
-    ∙ both (list_all p (numbers_below n)) (list_all p (n ∷ [])) (all-below p n (λ k less. each k (omega arith))) (both (p n) true (each n (omega arith)) refl)
+use Rattle.sl_laws.proofs.Valid.{operands-few}
 
 module _ {X : Type 0} where
   -- an element that passes
@@ -59,7 +50,7 @@ module _ {X : Type 0} where
   enumerated q k [] each = refl
   enumerated q k (x ∷ xs) each =
       let first : k + 0 ≡ k = omega arith in
-      both (q (k, x)) (list_all q (enumerate_from (k + 1) xs)) (subst (λ n. q (n, x) ≡ true) first (each 0 x refl))
+      and_from (q (k, x)) (list_all q (enumerate_from (k + 1) xs)) (subst (λ n. q (n, x) ≡ true) first (each 0 x refl))
       (enumerated q (k + 1) xs (λ j y at. let next : k + suc j ≡ k + 1 + j = omega arith in subst (λ n. q (n, y) ≡ true) next (each (suc j) y at)))
 
 -- an item of a list is one of it
@@ -74,31 +65,6 @@ written-has items p place r within at concrete =
     has-filter is_concrete r (flat_map outputs items)
     (has-flat_map outputs r (item_at items p) items (has-item items p within) (has-at (outputs (item_at items p)) place r at)) concrete
 
--- An instruction has at most four operands.
-
-length-padded : (n : ℕ) (regs : List Reg) → length (padded n regs) ≡ n
-length-padded zero regs = refl
-length-padded (suc n) [] = ap suc (length-padded n [])
-length-padded (suc n) (r ∷ regs) = ap suc (length-padded n regs)
-
-filter_map-bound : (xs : List (Option Reg)) → length (filter_map (λ r. r) xs) ≤ length xs
-filter_map-bound [] = omega arith
-filter_map-bound (x ∷ xs) = bound x (filter_map (λ r. r) xs) (length xs) (filter_map-bound xs)
-  where
-    bound : (o : Option Reg) (ys : List Reg) (n : ℕ) → length ys ≤ n → length (cons_option o ys) ≤ suc n
-    bound None ys n le = omega arith
-    bound (Some y) ys n le = omega arith
-
-few-operands : (isa : Isa) (i : Instr) → IsValid isa i → length (operands i) ≤ 4
-few-operands isa i valid =
-    let places : length i.ins ≡ 4 = ap length valid.ins_shape ∙ length-padded 4 (operands i) in
-    omega (arith, filter_map-bound i.ins)
-
--- there is a source for each operand
-length-sources : (items : List Instr) (p : ℕ) → length (list_sources items p) ≡ length (operands (item_at items p))
-unfolding list_sources
-length-sources items p = length-map (operands (item_at items p)) (λ r. source_of r (reverse (take p items)))
-
 few_sources : (n : ℕ) → n ≤ 4 → nat_le n 4 ≡ true
 few_sources n h = grind (arith, nat_tests)
 
@@ -111,7 +77,7 @@ module _ (isa : Isa) (items : List Instr) (costs : CostTable) (few : length item
       let value : Source = Item p place in
       list_any-map (λ (f : Reg × Source). same_reg f.0 r && same_source f.1 value) (λ q. (q, last_source items q)) (written items)
       ∙ any-has (λ q. same_reg q r && same_source (last_source items q) value) r (written items) (written-has items p place r within at own)
-      (both (same_reg r r) (same_source (last_source items r) value) (same_reg-refl r) (ap (λ s. same_source s value) (last p place r within at) ∙ same_source-refl value))
+      (and_from (same_reg r r) (same_source (last_source items r) value) (same_reg-refl r) (ap (λ s. same_source s value) (last p place r within at) ∙ same_source-refl value))
 
   outputs-final : (p : ℕ) → p < length items → are_outputs_final (straight_problem items (written items) [] costs) p ≡ true
   outputs-final p within =
@@ -121,8 +87,8 @@ module _ (isa : Isa) (items : List Instr) (costs : CostTable) (few : length item
 
   sources-fine : (p : ℕ) → p < length items → are_known_sources (length items) (list_sources items p) ≡ true
   sources-fine p within =
-      let least : length (list_sources items p) ≤ 4 = omega (arith, length-sources items p, few-operands isa (item_at items p) (valid p within)) in
-      both (nat_le (length (list_sources items p)) 4) (list_all (is_known_source (length items)) (list_sources items p))
+      let least : length (list_sources items p) ≤ 4 = omega (arith, length-list_sources items p, operands-few isa (item_at items p) (valid p within)) in
+      and_from (nat_le (length (list_sources items p)) 4) (list_all (is_known_source (length items)) (list_sources items p))
       (few_sources (length (list_sources items p)) least)
       (ap (list_all (is_known_source (length items))) (sym (straight_sources items [] [] costs p within)) ∙ straight-known items [] [] costs p)
 
@@ -145,8 +111,8 @@ module _ (isa : Isa) (items : List Instr) (costs : CostTable) (few : length item
   }
 
 -- items that were read write registers of the machine
-pub read-concrete : (reads : List Lexeme → Result Instr FormReason) (printed : Instr → List ℕ) (items : List Instr) → IsPrintable reads printed → AreRead reads items
+pub read-concrete : (language : Language) (items : List Instr) → IsLanguage language → AreRead language.reads items
     → (p : ℕ) → p < length items → list_all is_concrete (outputs (item_at items p)) ≡ true
-read-concrete reads printed items printable read p within =
-    let was = read-at reads items p read within in
-    printable.concrete was.words _ was.read
+read-concrete language items lawful read p within =
+    let was = read-at language.reads items p read within in
+    (lawful.read was.words _ was.read).outputs_known

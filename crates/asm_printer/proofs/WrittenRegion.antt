@@ -1,33 +1,31 @@
 -- What is read of the written region of a legal schedule, and what it leaves.
-use Rattle.std.proofs.Common.{◌≡◌, ℕ, suc, ◌+◌, ◌≤◌, Bool, true, false, List, [], ◌∷◌, ◌++◌, length, reverse, codes, inl, inr, Result, Ok, if◌then◌else◌, refl, ap, ◌∙◌, sym, arith}
+use Rattle.std.proofs.Common.{◌≡◌, ℕ, suc, ◌+◌, ◌≤◌, Bool, true, false, List, [], ◌∷◌, ◌++◌, length, reverse, codes, inl, inr, Ok, if◌then◌else◌, refl, ap, ◌∙◌, sym, arith}
 use Rattle.sl_model.specs.declared.register.Reg.{Reg}
 use Rattle.sl_model.specs.declared.instruction.Instr.{Instr}
 use Rattle.sl_model.specs.declared.schedule.Choice.{Choice}
-use Rattle.sl_model.specs.declared.schedule.Source.{Source}
 use Rattle.sl_model.specs.declared.text.Comments.{Comments}
 use Rattle.sl_model.specs.State.{State, read, byte}
-use Rattle.sl_model.specs.Token.{Lexeme}
 use Rattle.sl_model.specs.Isa.{Isa}
 use Rattle.sl_model.specs.Exec.{loaded_by, values_of, memory_after, exec, run, touches, touches_of, operand_values}
-use Rattle.sl_model.specs.Cycles.{CostTable, Issued, push_of, issue, timed_from, timed, cycles_of, cycle_count}
+use Rattle.sl_model.specs.Cycles.{CostTable, Issued, timed, cycles_of, cycle_count}
 use Rattle.sl_model.specs.Body.{Body, applied_from, applied}
-use Rattle.sl_model.specs.Lawful.{IsLawful}
+use Rattle.sl_model.specs.Lawful.{IsLawful, AreValid}
 use Rattle.sl_model.specs.Legal.{Problem, IsFullLegal, body_of, sources_in, straight_problem}
 use Rattle.sl_model.specs.Space.{stalls_of}
 use Rattle.sl_model.specs.Program.{Program, Leaves, TagsHoldOf, times_of}
 use Rattle.sl_model.specs.Program.Program.{Straight}
-use Rattle.sl_isa.specs.declared.reasons.FormReason.{FormReason}
-use Rattle.legal_space.proofs.CycleLemmas.{length-cycles_of}
-use Rattle.renamer.specs.WellPosed.{AreValid}
-use Rattle.renamer.proofs.StraightLeaves.{straight-leaves}
+use Rattle.sl_isa.specs.Language.{Language, IsLanguage}
+use Rattle.sl_laws.proofs.Cycles.{length-cycles_of, length-timed}
+use Rattle.renamer.proofs.ForCallers.{straight-leaves}
 use Rattle.asm_reader.specs.declared.reasons.Wants.{Wants}
 use Rattle.asm_reader.specs.Reading.{region_alone}
-use Rattle.asm_reader.specs.Printed.{IsLineEnd, on_lines}
-use Rattle.asm_reader.specs.Printed as reading
-use Rattle.asm_reader.proofs.PrintedLines.{region_added}
-use Rattle.asm_printer.specs.Printed.{ends_by_both, line_end, item_lines, region_text}
-use Rattle.asm_printer.specs.ReadBack.{AreRead, IsPrintable}
-use Rattle.asm_printer.proofs.Entries.{IsReadAgain, head_note, entries, lines-same, head-same, head-inside, all-printed, length-entries, entries-on_lines}
+use Rattle.asm_printer.specs.Lines.{IsLineEnd, on_lines}
+use Rattle.asm_printer.specs.Lines as reading
+use Rattle.asm_printer.proofs.ReadLines.{region_added}
+use Rattle.asm_printer.specs.Printed.{head_note, ends_by_both, line_end, entries, region_text}
+use Rattle.asm_printer.specs.ReadBack.{AreRead}
+use Rattle.asm_printer.proofs.Entries.{head-inside, all-printed, length-entries, entries-on_lines}
+use Rattle.sl_model.specs.Machine.{space_of}
 
 -- On which lines instructions stand changes nothing of what they do.
 
@@ -57,35 +55,26 @@ unfolding applied_from
 length-applied body done [] = refl
 length-applied body done (c ∷ choices) = ap suc (length-applied body (c ∷ done) choices)
 
-pub length-timed : (costs : CostTable) (sources : ℕ → List Source) (choices : List Choice) (done : List Issued) (rest : List Choice) → length (timed_from costs sources choices done rest) ≡ length done + length rest
-unfolding timed_from
-length-timed costs sources choices done [] = omega arith
-length-timed costs sources choices done (c ∷ rest) =
-    let more : length (timed_from costs sources (c ∷ choices) (issue (push_of costs (sources c.item) choices done c) done ∷ done) rest) ≡ suc (length done) + length rest = length-timed costs sources (c ∷ choices) (issue (push_of costs (sources c.item) choices done c) done ∷ done) rest in
-    omega arith
-
 -- A printed region whose instructions were read is read by itself as these.
-pub region-reads : (reads : List Lexeme → Result Instr FormReason) (printed : Instr → List ℕ) (comments : Comments) (wants : Wants) (problem : Problem) (schedule : List Choice) (end : List ℕ)
-    → IsReadAgain reads printed → IsPrintable reads printed → wants.no_notes ≡ false → wants.once ≡ false → length schedule ≤ wants.limit
-    → AreRead reads (applied (body_of problem) schedule) → IsLineEnd end
-    → region_alone reads comments wants (region_text printed problem schedule end) ≡ Ok (on_lines 2 (applied (body_of problem) schedule))
+pub region-reads : (language : Language) (comments : Comments) (wants : Wants) (problem : Problem) (schedule : List Choice) (end : List ℕ)
+    → IsLanguage language → wants.no_notes ≡ false → wants.once ≡ false → length schedule ≤ wants.limit
+    → AreRead language.reads (applied (body_of problem) schedule) → IsLineEnd end
+    → region_alone language.reads comments wants (region_text language.printed problem schedule end) ≡ Ok (on_lines 2 (applied (body_of problem) schedule))
 unfolding region_text
-region-reads reads printed comments wants problem schedule end again printable pass often few read ends =
+region-reads language comments wants problem schedule end lawful pass often few read ends =
     let times : List Issued = timed problem.costs (sources_in problem) schedule in
     let items : List Instr = applied (body_of problem) schedule in
     let many : length items ≡ length schedule = length-applied (body_of problem) [] schedule in
     let cycles : length (cycles_of times) ≡ length schedule = omega (arith, length-cycles_of times, length-timed problem.costs (sources_in problem) [] [] schedule) in
-    let lines : List reading.Printed = entries printed items schedule (cycles_of times) in
-    let fit : length lines ≤ wants.limit = omega (arith, length-entries printed items schedule (cycles_of times) (sym many) (cycles ∙ sym many)) in
-    ap (λ v. region_alone reads comments wants (v ++ item_lines printed items schedule (cycles_of times) end)) (head-same (length schedule) (cycle_count times) (stalls_of problem schedule) end)
-    ∙ ap (λ v. region_alone reads comments wants (reading.region_line (head_note (length schedule) (cycle_count times) (stalls_of problem schedule)) end ++ v)) (lines-same printed items schedule (cycles_of times) end)
-    ∙ region_added reads comments wants printable.nothing pass often (head_note (length schedule) (cycle_count times) (stalls_of problem schedule)) end lines
-    (head-inside (length schedule) (cycle_count times) (stalls_of problem schedule)) ends (all-printed reads printed comments items schedule (cycles_of times) again printable read) fit
-    ∙ ap (λ l. Ok l) (entries-on_lines 2 printed items schedule (cycles_of times) (sym many) (cycles ∙ sym many))
+    let lines : List reading.Printed = entries language.printed items schedule (cycles_of times) in
+    let fit : length lines ≤ wants.limit = omega (arith, length-entries language.printed items schedule (cycles_of times) (sym many) (cycles ∙ sym many)) in
+    region_added language.reads comments wants lawful.nothing pass often (head_note (length schedule) (cycle_count times) (stalls_of problem schedule)) end lines
+    (head-inside (length schedule) (cycle_count times) (stalls_of problem schedule)) ends (all-printed language comments items schedule (cycles_of times) lawful read) fit
+    ∙ ap (λ l. Ok l) (entries-on_lines 2 language.printed items schedule (cycles_of times) (sym many) (cycles ∙ sym many))
 
 -- what is read leaves what the old items leave
 pub region-leaves : (isa : Isa) (decrement : Bool → Reg → Instr) (items : List Instr) (live free : List Reg) (costs : CostTable) (schedule : List Choice) (s : State) → IsLawful isa → AreValid isa items
-    → IsFullLegal isa (straight_problem items live free costs) schedule → TagsHoldOf isa.space (touches isa items s)
+    → IsFullLegal isa (straight_problem items live free costs) schedule → TagsHoldOf (space_of isa.name) (touches isa items s)
     → Leaves isa decrement live free (Straight items) (Straight (on_lines 2 (applied (body_of (straight_problem items live free costs)) schedule))) s
 region-leaves isa decrement items live free costs schedule s lawful valid legal tags =
     leaves-on_lines isa decrement live free (Straight items) 2 (applied (body_of (straight_problem items live free costs)) schedule) s

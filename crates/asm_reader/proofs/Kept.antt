@@ -5,17 +5,18 @@ use Rattle.std.specs.List.{AllByRecursion}
 use Rattle.sl_model.specs.declared.instruction.Instr.{Instr}
 use Rattle.sl_model.specs.declared.text.Comments.{Comments}
 use Rattle.sl_model.specs.Isa.{Isa}
-use Rattle.sl_model.specs.Lawful.{IsValid}
+use Rattle.sl_model.specs.Lawful.{IsValid, AreValid}
 use Rattle.sl_model.specs.Text.{without_end}
 use Rattle.sl_model.specs.Token.{Lexeme, tokens, open_behind}
 use Rattle.sl_isa.specs.declared.reasons.FormReason.{FormReason}
-use Rattle.sl_isa.specs.Arch.{IsRead}
-use Rattle.legal_space.specs.Testable.{AreValid}
+use Rattle.sl_isa.specs.Language.{IsRead, Reads}
 use Rattle.asm_reader.specs.declared.reasons.Reason.TheVariants as reason
 use Rattle.asm_reader.specs.declared.reasons.Refusal.{Refusal}
 use Rattle.asm_reader.specs.declared.reasons.Wants.{Wants}
 use Rattle.asm_reader.specs.Statements.{statements, words_of, has_note}
-use Rattle.asm_reader.specs.Reading.{◌>>=◌, Reads, refused, writes_again, with_item, read_or_refused, with_words, with_statement, with_statements, with_lines}
+use Rattle.sl_model.specs.ResultSteps.{◌>>=◌}
+use Rattle.asm_reader.specs.Reading.{refused, writes_again, with_item, read_or_refused, with_words, with_statement, with_statements, with_lines}
+use Rattle.sl_laws.proofs.Valid.{valid-on_line}
 
 -- both steps of a chain that is read were read
 pub chain_read : {A B : Type 0} (r : Result A Refusal) (f : A → Result B Refusal) (y : B) → (r >>= f) ≡ Ok y → (x : A) × (r ≡ Ok x) × (f x ≡ Ok y)
@@ -84,20 +85,7 @@ few_items reads comments wants inside number lines items e =
 
 -- ---- instructions of the set
 
--- an instruction on another line
-valid_on_line : (isa : Isa) (i : Instr) (line : ℕ) → IsValid isa i → IsValid isa (record i { line = line })
-valid_on_line isa i line v = record {
-  op = v.op;
-  ins_shape = v.ins_shape;
-  outs_shape = v.outs_shape;
-  operand_count = v.operand_count;
-  output_count = v.output_count;
-  operand_classes = v.operand_classes;
-  output_classes = v.output_classes;
-  distinct = v.distinct;
-  tied = v.tied;
-}
-
+-- what holds of all holds of one more
 all_more : {X : Type 0} (P : X → Type 0) (xs : List X) (x : X) → AllByRecursion P xs → P x → AllByRecursion P (xs ++ x ∷ [])
 all_more P [] x all here = (here, tt)
 all_more P (y ∷ ys) x all here = (all.0, all_more P ys x all.1 here)
@@ -108,7 +96,7 @@ pub valid_items : (isa : Isa) (reads : Reads) → ((words : List Lexeme) (i : In
 valid_items isa reads valid comments wants inside number lines items e =
     kept_lines reads comments wants (AllByRecursion (IsValid isa))
     (λ words line some i longer read is all. subst (AllByRecursion (IsValid isa)) (sym is.last)
-    (all_more (IsValid isa) some (record i { line = line }) all (valid_on_line isa i line (valid words i read).valid)))
+    (all_more (IsValid isa) some (record i { line = line }) all (valid-on_line isa i line (valid words i read).valid)))
     inside number [] lines items e tt
 
 -- the same of the item at each place

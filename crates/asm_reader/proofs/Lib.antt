@@ -2,6 +2,5 @@ pub mod Tokens
 pub mod Steps
 pub mod Lines
 pub mod Kept
-pub mod PrintedTokens
-pub mod PrintedLines
 pub mod Words
+pub mod ForCallers

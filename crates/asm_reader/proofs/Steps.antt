@@ -1,5 +1,5 @@
 -- The steps by which items are read.
-use Rattle.std.proofs.Common.{◌≡◌, ℕ, ◌+◌, ◌<◌, List, [], ◌∷◌, length, Option, None, Some, Result, Ok, refl, ap, arith, Bor}
+use Rattle.std.proofs.Common.{◌≡◌, ℕ, ◌+◌, ◌<◌, List, [], ◌∷◌, length, Option, None, Some, Result, ap, arith, Bor}
 use Rattle.std.specs.Prelude.{MatchOption}
 use Rattle.sl_model.specs.declared.instruction.Instr.{Instr}
 use Rattle.sl_model.specs.Token.{Lexeme}
@@ -9,11 +9,14 @@ use Rattle.asm_reader.specs.declared.reasons.ReadRefusal.{ReadRefusal}
 use Rattle.asm_reader.specs.declared.reasons.ReadRefusal.TheVariants.{Refused, NoMemory}
 use Rattle.asm_reader.specs.declared.reasons.Wants.{Wants}
 use Rattle.asm_reader.specs.Statements.{statements}
-use Rattle.asm_reader.specs.Views.{lexemes, Refuses}
-use Rattle.asm_reader.specs.Reading.{◌>>=◌, Reads, with_statement, with_statements}
+use Rattle.asm_reader.specs.Views.{lexemes, refusal_of}
+use Rattle.sl_model.specs.Answers.{Refuses}
+use Rattle.sl_model.specs.ResultSteps.{◌>>=◌}
+use Rattle.sl_isa.specs.Language.{Reads}
+use Rattle.asm_reader.specs.Reading.{with_statement, with_statements}
 
 -- a step that fails ends all
-pub refuses_all : {A B : Type 0} (failure : ReadRefusal) (step : Result A Refusal) (next : A → Result B Refusal) → Refuses failure step → Refuses failure (step >>= next)
+pub refuses_all : {A B : Type 0} (failure : ReadRefusal) (step : Result A Refusal) (next : A → Result B Refusal) → Refuses (refusal_of failure) step → Refuses (refusal_of failure) (step >>= next)
 refuses_all (Refused refusal) step next e = ap (λ r. r >>= next) e
 refuses_all NoMemory step next e = tt
 
@@ -40,18 +43,8 @@ fewer_left tokens None e = omega arith
 fewer_left tokens (Some rest) e = omega arith
 
 module _ (reads : Reads) (wants : Wants) where
-  pub no_statements : (line : ℕ) (items : List Instr) → with_statements reads wants line items [] ≡ Ok items
-  unfolding with_statements
-  no_statements line items = refl
-
   -- a statement that fails
   pub statement_fails : (line : ℕ) (items : List Instr) (first : List Lexeme) (more : List (List Lexeme)) (failure : ReadRefusal)
-      → Refuses failure (with_statement reads wants line items first) → Refuses failure (with_statements reads wants line items (first ∷ more))
+      → Refuses (refusal_of failure) (with_statement reads wants line items first) → Refuses (refusal_of failure) (with_statements reads wants line items (first ∷ more))
   unfolding with_statements
   statement_fails line items first more failure e = refuses_all failure (with_statement reads wants line items first) (λ longer. with_statements reads wants line longer more) e
-
-  -- a statement that is read
-  pub statement_read : (line : ℕ) (items longer : List Instr) (first : List Lexeme) (more : List (List Lexeme))
-      → with_statement reads wants line items first ≡ Ok longer → with_statements reads wants line items (first ∷ more) ≡ with_statements reads wants line longer more
-  unfolding with_statements
-  statement_read line items longer first more e = ap (λ r. r >>= λ longer. with_statements reads wants line longer more) e

@@ -2,4 +2,3 @@ pub mod Statements
 pub mod Reading
 pub mod Views
 pub mod RegionViews
-pub mod Printed

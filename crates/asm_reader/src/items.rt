@@ -5,16 +5,16 @@ ghost use Rattle.sl_model.specs.declared.instruction.Instr.{Instr as InstrValue}
 ghost use Rattle.sl_model.specs.Text.{whole_lines, numbered_lines};
 ghost use Rattle.sl_model.specs.Token.{tokens as line_tokens, open_behind};
 ghost use Rattle.sl_isa.specs.declared.reasons.FormReason.{FormReason as FormReasonValue};
-ghost use Rattle.sl_isa.specs.Arch.{Answers};
+ghost use Rattle.sl_model.specs.Answers.{Refuses, Gives};
 ghost use Rattle.asm_reader.specs.declared.reasons.Wants.{Wants as WantsValue};
 ghost use Rattle.asm_reader.specs.Statements.{statements, has_note};
-ghost use Rattle.asm_reader.specs.Views.{lexemes, Refuses, Gives, Leaves};
+ghost use Rattle.asm_reader.specs.Views.{lexemes, Leaves, refusal_of};
 ghost use Rattle.asm_reader.specs.Reading as spec;
+ghost use Rattle.sl_isa.specs.Arch.{reason_of};
 
 use crate::reasons::{ReadRefusal, Reason, Refusal, Wants};
 use crate::statements::{first_statement, has_note, is_unbuilt, words_of};
-use legal_space::sources::place_of;
-use sl_isa::{Arch, FormErr, FormReason, Instr, Reg};
+use sl_isa::{Arch, FormErr, FormReason, Instr, Reg, place_of};
 use sl_text::{Comments, Line, Token, lines, split_line, tokens, without_end};
 use std::alloc::{AllocError, Global};
 
@@ -38,7 +38,8 @@ fn is_written(items: &[Instr], reg: Reg) -> bool
 
 // Is one of some registers written by one of some items?
 fn is_any_written(items: &[Instr], regs: &[Option<Reg>]) -> bool
-    ensures { result ≡ list_any (λ r. list_any (spec.writes r) items.now) (filter_map (λ r. r) regs.now) }
+    ensures { result ≡ list_any (λ r. list_any (spec.writes r) items.now)
+        (filter_map (λ r. r) regs.now) }
 {
     regs.iter()
         .filter_map(|reg| *reg)
@@ -85,9 +86,11 @@ fn form_refusal(
 
 // The failure where words weren't read.
 fn words_refusal(alloc: Global, line: u32, words: &[Token<'_>], error: FormErr) -> ReadRefusal
-    ensures { (wants : WantsValue) (items : List InstrValue) (answer : Result InstrValue FormReasonValue)
-        → Answers (Err error) answer
-        → Refuses result (spec.read_or_refused wants line items (lexemes words.now) answer) }
+    ensures { (wants : WantsValue) (items : List InstrValue)
+        (answer : Result InstrValue FormReasonValue)
+        → Refuses (reason_of error) answer
+        → Refuses (refusal_of result)
+        (spec.read_or_refused wants line items (lexemes words.now) answer) }
 {
     match error {
         FormErr::Refused(form) => match form_refusal(alloc, line, words, form) {
@@ -106,7 +109,8 @@ fn push_words<A: Arch>(
     words: &[Token<'_>],
     items: &mut Vec<Instr>,
 ) -> Result<(), ReadRefusal>
-    ensures { Leaves result items.new.items (spec.with_words A.reads manner.wants line items.old.items (lexemes words.now)) }
+    ensures { Leaves result items.new.items
+        (spec.with_words A.language.reads manner.wants line items.old.items (lexemes words.now)) }
 {
     if words.is_empty() {
         return Ok(());
@@ -135,7 +139,8 @@ fn push_statement<A: Arch>(
     items: &mut Vec<Instr>,
 ) -> Result<(), ReadRefusal>
     ensures { Leaves result items.new.items
-        (spec.with_statement A.reads manner.wants line items.old.items (lexemes statement.now)) }
+        (spec.with_statement A.language.reads manner.wants line items.old.items
+        (lexemes statement.now)) }
 {
     if has_refused_note(manner.wants, statement) {
         let reason = Reason::NotYet;
@@ -154,7 +159,8 @@ fn push_statements<A: Arch>(
     items: &mut Vec<Instr>,
 ) -> Result<(), ReadRefusal>
     ensures { Leaves result items.new.items
-        (spec.with_statements A.reads manner.wants line items.old.items (statements (lexemes tokens.now))) }
+        (spec.with_statements A.language.reads manner.wants line items.old.items
+        (statements (lexemes tokens.now))) }
 {
     let mut rest = Some(tokens);
     while let Some(left) = rest {
@@ -165,16 +171,25 @@ fn push_statements<A: Arch>(
     Ok(())
 }
 
-/// The tokens of a line; `inside` says that a block comment is open before it.
+/// The tokens of a line, and whether a block comment is open behind it; `inside`
+/// says that one is open before it.
 pub(crate) fn tokens_of<'a>(
     manner: Manner,
     line: Line<'a>,
     inside: bool,
-) -> Result<Vec<Token<'a>>, AllocError>
+) -> Result<(Vec<Token<'a>>, bool), AllocError>
     requires { length line.text.now < 2 ^ 31 }
-    ensures { IfOk result (λ list. lexemes list.items ≡ line_tokens manner.comments inside line.entry.text.now) }
+    ensures tokens { IfOk result
+        (λ r. lexemes r.0.items ≡ line_tokens manner.comments inside line.entry.text.now) }
+    ensures unclosed { IfOk result
+        (λ r. r.1 ≡ open_behind inside (line_tokens manner.comments inside line.entry.text.now)) }
 {
-    tokens(line, manner.comments, inside).collect(manner.alloc)
+    let mut list = Vec::new(manner.alloc);
+    let mut left = tokens(line, manner.comments, inside);
+    while let Some(token) = left.next() {
+        list.push(token)?;
+    }
+    Ok((list, left.still_inside()))
 }
 
 /// Is a block comment open behind a line? `inside` says that one is open before it.
@@ -187,7 +202,8 @@ pub(crate) fn is_open_behind(comments: Comments, line: Line<'_>, inside: bool) -
     left.still_inside()
 }
 
-// Adds the items of a line, and says whether a block comment is open behind it; `inside` says that one is open before it.
+// Adds the items of a line, and says whether a block comment is open behind it; `inside`
+// says that one is open before it.
 fn push_line<A: Arch>(
     arch: &A,
     manner: Manner,
@@ -197,17 +213,19 @@ fn push_line<A: Arch>(
 ) -> Result<bool, ReadRefusal>
     requires { length line.text.now < 2 ^ 31 }
     ensures items { Leaves result items.new.items
-        (spec.with_statements A.reads manner.wants line.entry.number items.old.items
+        (spec.with_statements A.language.reads manner.wants line.entry.number items.old.items
         (statements (line_tokens manner.comments inside line.entry.text.now))) }
     ensures unclosed { IfOk result
-        (λ unclosed. unclosed ≡ open_behind inside (line_tokens manner.comments inside line.entry.text.now)) }
+        (λ unclosed. unclosed
+        ≡ open_behind inside (line_tokens manner.comments inside line.entry.text.now)) }
 {
-    let tokens = tokens_of(manner, line, inside)?;
+    let (tokens, unclosed) = tokens_of(manner, line, inside)?;
     push_statements(arch, manner, line.number, &tokens, items)?;
-    Ok(is_open_behind(manner.comments, line, inside))
+    Ok(unclosed)
 }
 
-/// The items of the lines of a text, whose first line has this number; `inside` says that a block comment is open before it.
+/// The items of the lines of a text, whose first line has this number; `inside` says that a
+/// block comment is open before it.
 pub(crate) fn items_of<A: Arch>(
     arch: &A,
     manner: Manner,
@@ -217,8 +235,9 @@ pub(crate) fn items_of<A: Arch>(
 ) -> Result<Vec<Instr>, ReadRefusal>
     requires text { length text.now < 2 ^ 31 }
     requires first { first < 2 ^ 31 }
-    ensures { Gives (λ items. items.items) result
-        (spec.with_lines A.reads manner.comments manner.wants inside first [] (whole_lines text.now)) }
+    ensures { Gives refusal_of (λ items. items.items) result
+        (spec.with_lines A.language.reads manner.comments manner.wants inside first []
+        (whole_lines text.now)) }
 {
     let mut items = Vec::new(manner.alloc);
     let mut unclosed = inside;

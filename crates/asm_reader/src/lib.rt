@@ -2,13 +2,9 @@
 #![tactic(auto)]
 
 mod items;
-pub mod printed;
 pub mod reasons;
 pub mod region;
 mod statements;
 
 pub use reasons::{ReadRefusal, Reason, Refusal, Wants};
 pub use region::{Region, read_region};
-
-#[cfg(test)]
-mod tests;

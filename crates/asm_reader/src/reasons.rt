@@ -13,7 +13,8 @@ pub struct Wants {
     pub limit: usize,
     /// Is each register written at most once?
     pub once: bool,
-    /// Are notes, which are comments that begin with `// @slothy:`, refused? Else they are comments.
+    /// Are notes, which are comments that begin with `// @slothy:`,
+    /// refused? Else they are comments.
     pub no_notes: bool,
 }
 
@@ -30,7 +31,8 @@ pub enum Reason {
     TooMany(usize),
 }
 
-/// Where a text is refused first, and why. Lines are counted from 1, and 0 stands for the whole text.
+/// Where a text is refused first, and why. Lines are counted from 1,
+/// and 0 stands for the whole text.
 #[derive(Clone, Copy, Debug, PartialEq, Eq)]
 pub struct Refusal {
     pub line: u32,

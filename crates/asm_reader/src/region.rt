@@ -2,17 +2,18 @@
 ghost use Rattle.std.specs.Prelude.{◌≡◌, ◌≤◌, ◌<◌, ◌^◌, length, IfOk};
 ghost use Rattle.std.specs.List.{AllByRecursion};
 ghost use Rattle.sl_model.specs.Text.{numbered_lines, cut};
-ghost use Rattle.sl_model.specs.Lawful.{IsValid};
+ghost use Rattle.sl_model.specs.Lawful.{IsValid, AreValid};
 ghost use Rattle.sl_text.specs.Cut.{parts_of};
-ghost use Rattle.legal_space.specs.Testable.{AreValid};
 ghost use Rattle.asm_reader.specs.Reading as spec;
 ghost use Rattle.asm_reader.specs.RegionViews.{region_of};
-ghost use Rattle.asm_reader.specs.Views.{comments_of, Answers, Gives};
+ghost use Rattle.sl_isa.specs.Arch.{comments_of};
+ghost use Rattle.sl_model.specs.Answers.{Answers, Gives};
+ghost use Rattle.asm_reader.specs.Views.{refusal_of};
 
 use crate::items::{Manner, is_open_after, items_of};
 use crate::reasons::{ReadRefusal, Reason, Refusal, Wants};
-use sl_isa::{Arch, ArchName, Instr};
-use sl_text::{Comments, Cut, CutRefusal, cut_region, lines};
+use sl_isa::{Arch, Instr, comment_kind};
+use sl_text::{Cut, CutRefusal, cut_region, lines};
 use std::alloc::Global;
 
 /// A region: its text, cut at the markers, and its instructions.
@@ -22,16 +23,6 @@ pub struct Region<'a> {
     pub cut: Cut<'a>,
     /// The instructions.
     pub items: Vec<Instr>,
-}
-
-// Which characters start a comment in the text of an architecture.
-fn comment_kind(name: ArchName) -> Comments
-    ensures { result ≡ comments_of name }
-{
-    match name {
-        ArchName::Arm64 => Comments::Slash,
-        ArchName::M4 => Comments::SlashAt,
-    }
 }
 
 // The refusal of a cut.
@@ -114,7 +105,8 @@ fn first_unbuilt(text: &str) -> Option<u32>
 fn built_parts(cut: Cut<'_>) -> Result<Cut<'_>, Refusal>
     requires { length cut.before.now < 2 ^ 31 }
     ensures answer { Answers parts_of result
-        (spec.unless_at (spec.first_unbuilt (numbered_lines 1 cut.entry.before.now)) (parts_of cut.entry)) }
+        (spec.unless_at (spec.first_unbuilt (numbered_lines 1 cut.entry.before.now))
+        (parts_of cut.entry)) }
     ensures same { IfOk result (λ built. built ≡ cut.entry) }
 {
     match first_unbuilt(cut.before) {
@@ -130,8 +122,8 @@ fn built_parts(cut: Cut<'_>) -> Result<Cut<'_>, Refusal>
 ///
 /// # Errors
 ///
-/// The first line that is refused, and why: first the markers, then what isn't built yet before the region, and then
-/// what stands in it. Where memory runs out, [`ReadRefusal::NoMemory`].
+/// The first line that is refused, and why: first the markers, then what isn't built yet before the
+/// region, and then what stands in it. Where memory runs out, [`ReadRefusal::NoMemory`].
 #[tactic(auto, unfolding(crate::specs::Reading::text_region))]
 pub fn read_region<'a, A: Arch>(
     arch: &A,
@@ -142,11 +134,13 @@ pub fn read_region<'a, A: Arch>(
     wants: Wants,
 ) -> Result<Region<'a>, ReadRefusal>
     requires { length text.now < 2 ^ 31 }
-    ensures answer { Gives region_of result
-        (spec.text_region A.reads (comments_of A.isa.name) wants start.now end.now text.now) }
+    ensures answer { Gives refusal_of region_of result
+        (spec.text_region A.language.reads
+        (comments_of A.language.isa.name) wants start.now end.now text.now) }
     ensures few { IfOk result (λ region. length region.items.items ≤ wants.limit) }
-    ensures valid { IfOk result (λ region. AllByRecursion (IsValid A.isa) region.items.items) }
-    ensures each_valid { IfOk result (λ region. AreValid A.isa region.items.items) }
+    ensures valid { IfOk result
+        (λ region. AllByRecursion (IsValid A.language.isa) region.items.items) }
+    ensures each_valid { IfOk result (λ region. AreValid A.language.isa region.items.items) }
 {
     let comments = comment_kind(arch.name());
     let cut = cut_parts(text, start, end)?;

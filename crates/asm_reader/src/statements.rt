@@ -4,41 +4,14 @@ ghost use Rattle.std.specs.List.{list_any};
 ghost use Rattle.std.specs.Str.{str_eq_ignore_ascii_case};
 ghost use Rattle.sl_text.specs.Tokens.{token_value};
 ghost use Rattle.asm_reader.specs.Views.{lexemes};
+ghost use Rattle.sl_model.specs.TokenTests as tests;
 ghost use Rattle.asm_reader.specs.Statements as spec;
 
-use sl_text::{Token, TokenKind};
+use sl_text::Token;
 use std::alloc::{AllocError, Global};
 
 /// How a comment that is a note begins.
 const NOTE: &[u8; 11] = b"// @slothy:";
-
-// Whether a token is the mark with a code.
-fn is_mark(code: u8, token: &Token<'_>) -> bool
-    ensures { result ≡ spec.is_mark code (token_value token.now) }
-{
-    if token.kind != TokenKind::Mark {
-        return false;
-    }
-    let bytes = token.text.as_bytes();
-    if bytes.is_empty() {
-        return code == 0;
-    }
-    bytes[0] == code
-}
-
-// Whether a token is a word.
-fn is_word(token: &Token<'_>) -> bool
-    ensures { result ≡ spec.is_word token.now.kind }
-{
-    token.kind == TokenKind::Word
-}
-
-// Whether a token is a comment.
-fn is_comment(token: &Token<'_>) -> bool
-    ensures { result ≡ spec.is_comment token.now.kind }
-{
-    token.kind == TokenKind::Comment
-}
 
 /// The tokens of the first statement of some tokens, and those behind its `;` where it has one.
 pub(crate) fn first_statement<'t, 'a>(
@@ -46,11 +19,12 @@ pub(crate) fn first_statement<'t, 'a>(
 ) -> (&'t [Token<'a>], Option<&'t [Token<'a>]>)
     ensures first { MatchOption result.1
         (spec.statements (lexemes tokens.now) ≡ lexemes result.0.now ∷ [])
-        (λ behind. spec.statements (lexemes tokens.now) ≡ lexemes result.0.now ∷ spec.statements (lexemes behind.now)) }
+        (λ behind. spec.statements (lexemes tokens.now)
+        ≡ lexemes result.0.now ∷ spec.statements (lexemes behind.now)) }
     ensures behind { MatchOption result.1 ⊤ (λ behind. length behind.now < length tokens.now) }
 {
     for (place, token) in tokens.iter().enumerate() {
-        if is_mark(b';', token) {
+        if token.is_mark(b';') {
             return (&tokens[..place], Some(&tokens[place + 1..]));
         }
     }
@@ -62,11 +36,12 @@ pub(crate) fn words_of<'a>(
     alloc: Global,
     statement: &[Token<'a>],
 ) -> Result<Vec<Token<'a>>, AllocError>
-    ensures { IfOk result (λ words. words.items ≡ filter (λ token. not (spec.is_comment token.kind)) statement.now) }
+    ensures { IfOk result
+        (λ words. words.items ≡ filter (λ token. not (tests.is_comment token.kind)) statement.now) }
 {
     statement
         .iter()
-        .filter(|token| !is_comment(token))
+        .filter(|token| !token.is_comment())
         .copied()
         .collect(alloc)
 }
@@ -75,7 +50,7 @@ pub(crate) fn words_of<'a>(
 fn is_note(token: &Token<'_>) -> bool
     ensures { result ≡ spec.is_note (token_value token.now) }
 {
-    if !is_comment(token) {
+    if !token.is_comment() {
         return false;
     }
     let bytes = token.text.as_bytes();
@@ -88,13 +63,6 @@ pub(crate) fn has_note(statement: &[Token<'_>]) -> bool
     ensures { result ≡ list_any (λ token. spec.is_note (token_value token)) statement.now }
 {
     statement.iter().any(|token| is_note(token))
-}
-
-// Whether a token stands directly behind another.
-fn stands_behind(before: &Token<'_>, token: &Token<'_>) -> bool
-    ensures { result ≡ spec.stands_behind (token_value before.now) (token_value token.now) }
-{
-    token.start as usize == before.start as usize + before.text.len()
 }
 
 // Whether a word names a directive that gives a register another name, or takes it away.
@@ -111,13 +79,13 @@ fn is_alias_word(text: &str) -> bool
 fn is_dotted(dot: &Token<'_>, word: &Token<'_>) -> bool
     ensures { result ≡ spec.is_dotted (token_value dot.now) (token_value word.now) }
 {
-    if !is_mark(b'.', dot) {
+    if !dot.is_mark(b'.') {
         return false;
     }
-    if !is_word(word) {
+    if !word.is_word() {
         return false;
     }
-    stands_behind(dot, word)
+    word.touches(dot)
 }
 
 // Whether tokens begin with `.req` or `.unreq`.
@@ -143,10 +111,10 @@ fn is_aliasing(tokens: &[Token<'_>]) -> bool
     let [dot, ..] = behind else {
         return false;
     };
-    if !is_word(first) {
+    if !first.is_word() {
         return false;
     }
-    if stands_behind(first, dot) {
+    if dot.touches(first) {
         return false;
     }
     begins_alias(behind)
@@ -159,13 +127,13 @@ fn has_label(tokens: &[Token<'_>]) -> bool
     let [first, colon, ..] = tokens else {
         return false;
     };
-    if !is_word(first) {
+    if !first.is_word() {
         return false;
     }
-    if !is_mark(b':', colon) {
+    if !colon.is_mark(b':') {
         return false;
     }
-    stands_behind(first, colon)
+    colon.touches(first)
 }
 
 // Whether a statement begins with `.`.
@@ -175,14 +143,16 @@ fn begins_with_dot(tokens: &[Token<'_>]) -> bool
     let [first, ..] = tokens else {
         return false;
     };
-    is_mark(b'.', first)
+    first.is_mark(b'.')
 }
 
-// Whether two tokens are a suffix of the name that ends with a token: `.` and a word, with no blank.
+// Whether two tokens are a suffix of the name that ends with a token:
+// `.` and a word, with no blank.
 fn is_suffix(before: &Token<'_>, dot: &Token<'_>, word: &Token<'_>) -> bool
-    ensures { result ≡ spec.is_suffix (token_value before.now) (token_value dot.now) (token_value word.now) }
+    ensures { result ≡ spec.is_suffix (token_value before.now) (token_value dot.now)
+        (token_value word.now) }
 {
-    if !stands_behind(before, dot) {
+    if !dot.touches(before) {
         return false;
     }
     is_dotted(dot, word)
@@ -196,13 +166,16 @@ fn push_suffix(name: &mut Vec<u8>, word: &str) -> Result<(), AllocError>
     name.extend_from_slice(word.as_bytes())
 }
 
-// Adds to a name the suffixes that stand behind its first word. Where memory runs out, some of them may be there.
+// Adds to a name the suffixes that stand behind its first word. Where memory runs
+// out, some of them may be there.
 fn push_suffixes(
     name: &mut Vec<u8>,
     first: &Token<'_>,
     tokens: &[Token<'_>],
 ) -> Result<(), AllocError>
-    ensures { OnOk result (name.new.items ≡ name.old.items ++ spec.suffixes (token_value first.now) (lexemes tokens.now)) }
+    ensures { OnOk result
+        (name.new.items ≡ name.old.items
+        ++ spec.suffixes (token_value first.now) (lexemes tokens.now)) }
 {
     let mut before = *first;
     let mut rest = tokens;
@@ -225,7 +198,7 @@ fn mnemonic(alloc: Global, tokens: &[Token<'_>]) -> Result<Vec<u8>, AllocError>
     let [first, behind @ ..] = tokens else {
         return Ok(name);
     };
-    if !is_word(first) {
+    if !first.is_word() {
         return Ok(name);
     }
     name.extend_from_slice(first.text.as_bytes())?;
@@ -278,7 +251,8 @@ fn is_later_name(name: &[u8]) -> bool
     is_branch(name) || is_later_access(name)
 }
 
-// Whether the beginning of a statement says that it isn't read yet: a directive, a new name for a register, a label.
+// Whether the beginning of a statement says that it isn't read yet: a directive, a
+// new name for a register, a label.
 fn begins_unbuilt(tokens: &[Token<'_>]) -> bool
     ensures { result ≡ spec.begins_unbuilt (lexemes tokens.now) }
 {
@@ -293,9 +267,9 @@ fn begins_unbuilt(tokens: &[Token<'_>]) -> bool
 
 // Whether a symbolic register stands in a statement.
 fn has_symbol(tokens: &[Token<'_>]) -> bool
-    ensures { result ≡ list_any (λ token. spec.is_mark 60 (token_value token)) tokens.now }
+    ensures { result ≡ list_any (λ token. tests.marks 60 (token_value token)) tokens.now }
 {
-    tokens.iter().any(|token| is_mark(b'<', token))
+    tokens.iter().any(|token| token.is_mark(b'<'))
 }
 
 /// Whether a statement, without its comments, is one that isn't read yet.

@@ -1,4 +1,5 @@
-//! Operands and numbers of instructions, shifts of 128 bits, and numbers of so many bits as signed ones.
+//! Operands and numbers of instructions, shifts of 128 bits, and numbers
+//! of so many bits as signed ones.
 #![tactic(auto)]
 
 ghost use Rattle.std.specs.Prelude.{◌≡◌, ◌<◌, ◌≤◌, ◌*◌, ◌/◌, ◌%◌, ◌^◌, slice_index};
@@ -77,25 +78,4 @@ pub fn extended(bits: u32, x: u128) -> u128
         return u128::MAX - (1 << bits) + 1 + x;
     }
     x
-}
-
-#[cfg(test)]
-mod tests {
-    use super::*;
-
-    #[test]
-    fn shifts_and_signs_of_edge_values(rt: HostRuntime) {
-        assert_eq!(rt; operand(&[3, 5], 1), 5);
-        assert_eq!(rt; operand(&[3, 5], 2), 0);
-        assert_eq!(rt; number(&[7, -8, i64::MIN], 2), 1 << 63);
-        assert_eq!(rt; shift_left(u128::MAX, 127), 1 << 127);
-        assert_eq!(rt; shift_left(1, 128), 0);
-        assert_eq!(rt; shift_right(u128::MAX, 127), 1);
-        assert_eq!(rt; shift_right(u128::MAX, 128), 0);
-        assert_eq!(rt; low_bits(u128::MAX, 8), 255);
-        assert_eq!(rt; low_bits(u128::MAX, 128), u128::MAX);
-        assert_eq!(rt; extended(8, 0x80), u128::MAX - 127);
-        assert_eq!(rt; extended(8, 0x7f), 0x7f);
-        assert_eq!(rt; extended(64, (1 << 64) - 1), u128::MAX);
-    }
 }

@@ -1,5 +1,6 @@
-//! What the definitions say at their edges. There is no code here: each function's clauses are the values that a reader
-//! can compare with the manual and with the pages on scheduling, and the checker computes them from the definitions.
+//! What the definitions say at their edges. There is no code here: each function's clauses are the
+//! values that a reader can compare with the manual and with the pages on scheduling, and the
+//! checker computes them from the definitions.
 #![tactic(auto)]
 
 ghost use Rattle.edge_cases.specs.Edges.{OfNothing, OfZero, OfLastAddress, OfRanges, OfWidths, OfOneItem, OfAccesses};
@@ -34,7 +35,8 @@ pub fn an_item_reads_before_it_writes()
     ensures { OfOneItem }
 {}
 
-/// Accesses conflict where they share a byte of one base and one of them stores; other bases and tags decide the rest.
+/// Accesses conflict where they share a byte of one base and one of them stores; other
+/// bases and tags decide the rest.
 pub fn accesses_conflict_where_they_may_share_a_byte()
     ensures { OfAccesses }
 {}

@@ -2,7 +2,7 @@
 use Rattle.std.proofs.Common.{◌≡◌, ◌∙◌, sym, ap, subst, refl, ℕ, zero, suc, ◌==◌, ◌≤◌, true, cond, not, List, [], ◌∷◌, length}
 use Rattle.std.specs.Prelude.{ℤ, nat_le, unsigned_abs, Option, Some, None, slice_get, slice_set}
 use Rattle.std.proofs.Math.Logic.{⊎_elim}
-use Rattle.std.proofs.lemmas.Bool.{leb-true, cases_Bool}
+use Rattle.std.proofs.lemmas.Bool.{leb-true, cases_Bool, false≢true}
 use Rattle.form_table.specs.Rows.{row_operands}
 use Rattle.form_table.specs.Reads.{held_at, is_zero, without_number, settled}
 use Rattle.form_table.specs.Tables.{is_own, same_spellings, twice_operands, is_kept_by, is_kept_at, has_kept, all_kept}
@@ -11,21 +11,11 @@ use Rattle.form_table.specs.declared.rows.Alias.TheVariants as alias
 use Rattle.form_table.specs.declared.rows.Row.{Row}
 use Rattle.form_table.specs.declared.spells.Held.{Held}
 use Rattle.form_table.specs.declared.reader.Fit.{Fit}
-use Rattle.form_table.proofs.Unique.{both_true, no_truth}
-use Rattle.form_table.proofs.Again.{Shaped}
+use Rattle.form_table.proofs.ForCallers.{Shaped, all_kept_at}
 use Rattle.form_isa.specs.TableIsa.{ranges, last_number, is_kept}
 use Rattle.form_isa.specs.LawfulTable.{is_last_number, has_its_number}
 use Rattle.form_isa.proofs.Numbers.{three, EndsAt, last-is, last-number}
-
--- each row of a table names one that keeps its spelling
-kept-at : (table rows : List Row) (k : ℕ) (row : Row) → all_kept table rows ≡ true → slice_get rows k ≡ Some row →
-    has_kept table row row.alias ≡ true
-kept-at table [] k row e at = absurd cc
-kept-at table (r ∷ rows) zero row e at =
-    subst (λ (v : Row). has_kept table v v.alias ≡ true) (let same : r ≡ row = cc in same)
-    (both_true (has_kept table r r.alias) (all_kept table rows) e).0
-kept-at table (r ∷ rows) (suc k) row e at =
-    kept-at table rows k row (both_true (has_kept table r r.alias) (all_kept table rows) e).1 at
+use Rattle.sl_laws.proofs.Tests.{then_parts}
 
 -- The row that an alias names keeps its own spelling: so no alias names its own row.
 own-row : (row target : Row) (o : Option Row) → o ≡ Some row → o ≡ Some target → is_own target.alias ≡ true →
@@ -35,7 +25,7 @@ own-row row target o e f own = subst (λ (v : Row). is_own v.alias ≡ true) (le
 named-own : (row : Row) (a : Alias) (o : Option Row) →
     ((target : Row) → is_kept_by row a target ≡ true → is_own target.alias ≡ true) →
     is_kept_at row a o ≡ true → o ≡ Some row → is_own row.alias ≡ true
-named-own row a None own e at = absurd (no_truth e)
+named-own row a None own e at = absurd (false≢true e)
 named-own row a (Some target) own e at = own-row row target (Some target) at refl (own target e)
 
 as-own : (table : List Row) (fit : Fit) (row : Row) (form : ℕ) → slice_get table fit.form ≡ Some row →
@@ -44,7 +34,7 @@ as-own : (table : List Row) (fit : Fit) (row : Row) (form : ℕ) → slice_get t
 unfolding settled
 as-own table fit row form at stays e =
     named-own row (alias.As form) (slice_get table form)
-    (λ target kept. (both_true (is_own target.alias) (same_spellings (row_operands row) (row_operands target)) kept).0) e
+    (λ target kept. (then_parts (is_own target.alias) (same_spellings (row_operands row) (row_operands target)) kept).0) e
     (ap (λ (f : Fit). slice_get table f.form) stays ∙ at)
 
 repeat-own : (table : List Row) (fit : Fit) (row : Row) (form : ℕ) → slice_get table fit.form ≡ Some row →
@@ -53,7 +43,7 @@ repeat-own : (table : List Row) (fit : Fit) (row : Row) (form : ℕ) → slice_g
 unfolding settled
 repeat-own table fit row form at stays e =
     named-own row (alias.Repeat form) (slice_get table form)
-    (λ target kept. (both_true (is_own target.alias) (same_spellings (twice_operands row) (row_operands target)) kept).0) e
+    (λ target kept. (then_parts (is_own target.alias) (same_spellings (twice_operands row) (row_operands target)) kept).0) e
     (ap (λ (f : Fit). slice_get table f.form) stays ∙ at)
 
 -- What was kept with its number isn't without it.
@@ -62,9 +52,6 @@ set-none : (helds : List Held) (place : ℕ) (held : Held) (n : ℤ) → held.nu
 set-none [] place held n e f = cc
 set-none (h ∷ helds) zero held n e f = cc
 set-none (h ∷ helds) (suc place) held n e f = set-none helds place held n e f
-
-zero-there : (o : Option ℤ) (n : ℤ) → o ≡ Some n → is_zero o ≡ (unsigned_abs n == 0)
-zero-there o n e = ap is_zero e
 
 not-zero : (fit : Fit) (form place : ℕ) (n : ℤ) → settled (alias.ZeroAs form place) fit ≡ fit →
     (held_at fit.helds place).number ≡ Some n → (unsigned_abs n == 0) ≡ true → ⊥
@@ -81,7 +68,7 @@ zero-alone : (fit : Fit) (row : Row) (form place : ℕ) → settled (alias.ZeroA
     has_its_number (alias.ZeroAs form place) (row_operands row) ≡ true →
     is_kept (alias.ZeroAs form place) (last_number row (three fit.helds)) ≡ true
 zero-alone fit row form place stays s e =
-    let parts = both_true (nat_le (length (ranges (row_operands row))) 3) (is_last_number place (row_operands row)) e in
+    let parts = then_parts (nat_le (length (ranges (row_operands row))) 3) (is_last_number place (row_operands row)) e in
     let ends : EndsAt place (row_operands row) fit.helds = last-is place (row_operands row) fit.helds s parts.1 in
     let few : length (ranges (row_operands row)) ≤ 3 = leb-true (length (ranges (row_operands row))) 3 parts.0 in
     ap (λ n. not (unsigned_abs n == 0)) (last-number row fit.helds place ends few)
@@ -94,9 +81,9 @@ alone-by : (table : List Row) (fit : Fit) (row : Row) (a : Alias) → row.alias 
     is_kept a (last_number row (three fit.helds)) ≡ true
 alone-by table fit row alias.Own is at stays e number s = refl
 alone-by table fit row (alias.As form) is at stays e number s =
-    absurd (no_truth (ap is_own (sym is) ∙ as-own table fit row form at stays e))
+    absurd (false≢true (ap is_own (sym is) ∙ as-own table fit row form at stays e))
 alone-by table fit row (alias.Repeat form) is at stays e number s =
-    absurd (no_truth (ap is_own (sym is) ∙ repeat-own table fit row form at stays e))
+    absurd (false≢true (ap is_own (sym is) ∙ repeat-own table fit row form at stays e))
 alone-by table fit row (alias.ZeroAs form place) is at stays e number s = zero-alone fit row form place stays s number
 
 pub kept-alone : (table : List Row) (fit : Fit) (row : Row) → all_kept table table ≡ true →
@@ -104,4 +91,4 @@ pub kept-alone : (table : List Row) (fit : Fit) (row : Row) → all_kept table t
     has_its_number row.alias (row_operands row) ≡ true → Shaped (row_operands row) fit.helds →
     is_kept row.alias (last_number row (three fit.helds)) ≡ true
 kept-alone table fit row kept at stays number s =
-    alone-by table fit row row.alias refl at stays (kept-at table table fit.form row kept at) number s
+    alone-by table fit row row.alias refl at stays (all_kept_at table table fit.form row kept at) number s

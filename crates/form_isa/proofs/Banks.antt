@@ -1,19 +1,19 @@
 -- A class that is only of a bank is one of its registers alone.
-use Rattle.std.proofs.Common.{◌≡◌, ◌∙◌, ap, subst, refl, ℕ, ◌+◌, ◌*◌, ◌/◌, ◌%◌, ◌^◌, ◌<◌, ◌≤◌, ◌≢◌, Bool, true, false, cond, not, ◌&&◌, eqb, arith}
+use Rattle.std.proofs.Common.{◌≡◌, ◌∙◌, ap, subst, refl, ℕ, ◌+◌, ◌*◌, ◌/◌, ◌%◌, ◌^◌, ◌<◌, ◌≤◌, ◌≢◌, Bool, true, false, not, ◌&&◌, eqb, arith}
 use Rattle.std.specs.Prelude.{nat_lt}
 use Rattle.std.specs.Int.{bit_at}
 use Rattle.std.proofs.Math.Nat.{div-eq_of_lt}
 use Rattle.std.proofs.lemmas.Nat.{mod_below, pow_pos}
 use Rattle.std.proofs.lemmas.Nat.Bits.{bit_at_above, bit_at_cat_low, bit_at-pow_other, bit_at-zero}
-use Rattle.std.proofs.lemmas.Bool.{and_parts, eqb-true, ltb-true}
+use Rattle.std.proofs.lemmas.Bool.{and_parts, eqb-true, ltb-true, not-true, false≢true}
 use Rattle.sl_model.specs.declared.register.Bank.{Bank}
 use Rattle.sl_model.specs.declared.register.Bank.TheVariants.{General, Vector, Flags, Stack}
 use Rattle.sl_model.specs.declared.register.Reg.{Reg}
 use Rattle.sl_model.specs.declared.register.RegSet.{RegSet}
 use Rattle.sl_model.specs.RegSets.{bit_of, bank_size, set_has}
 use Rattle.sl_model.specs.Lawful.{bank_bits, suits_set, zero_register}
-use Rattle.form_table.proofs.Unique.{both_true, no_truth}
 use Rattle.form_isa.specs.LawfulTable.{are_of, is_only_of}
+use Rattle.sl_laws.proofs.Tests.{else_parts, then_parts}
 
 -- A class has no register of a bank.
 record IsClear (bank : Bank) (set : RegSet) : Type 0 where
@@ -72,7 +72,7 @@ general-below : (set : RegSet) → are_of General set ≡ true → set.bits < 2 
 general-below set e =
     let same : bank_bits General set ≡ set.bits =
     eqb-true (bank_bits General set) set.bits
-    (both_true (eqb (bank_bits General set) set.bits) (not (eqb (set.bits / 2 ^ 31 % 2) 1)) e).0 in
+    (then_parts (eqb (bank_bits General set) set.bits) (not (eqb (set.bits / 2 ^ 31 % 2) 1)) e).0 in
     let below : set.bits % 2 ^ 32 < 2 ^ 32 = mod_below set.bits (2 ^ 32) (pow_pos 32) in
     subst (λ n. n < 2 ^ 32) same below
 
@@ -129,19 +129,15 @@ suits-bank Flags General symbolic number set e s = absurd (clear-suits General s
 suits-bank Flags Vector symbolic number set e s = absurd (clear-suits Vector symbolic number set (of-flags-vector set e) s)
 suits-bank Flags Flags symbolic number set e s = refl
 suits-bank Flags Stack symbolic number set e s = absurd (clear-suits Stack symbolic number set (of-flags-stack set e) s)
-suits-bank Stack bank symbolic number set e s = absurd (no_truth e)
+suits-bank Stack bank symbolic number set e s = absurd (false≢true e)
 
 -- what the test of a class says
 record IsOnly (b : Bank) (set : RegSet) : Type 0 where
   some : eqb set.bits 0 ≡ false
   of : are_of b set ≡ true
 
-else_true : (a b : Bool) → cond a false b ≡ true → (a ≡ false) × (b ≡ true)
-else_true true b e = absurd (no_truth e)
-else_true false b e = (refl, e)
-
 only-is : (b : Bank) (set : RegSet) → is_only_of b set ≡ true → IsOnly b set
-only-is b set e = let parts = else_true (eqb set.bits 0) (are_of b set) e in record { some = parts.0; of = parts.1 }
+only-is b set e = let parts = else_parts (eqb set.bits 0) (are_of b set) e in record { some = parts.0; of = parts.1 }
 
 pub only-some : (b : Bank) (set : RegSet) → is_only_of b set ≡ true → eqb set.bits 0 ≡ false
 only-some b set e = (only-is b set e).some
@@ -151,11 +147,7 @@ only-bank b r set e s = suits-bank b r.bank r.symbolic r.number set (only-is b s
 
 -- The zero register is in no class of one bank.
 not_one : (x : ℕ) → not (eqb x 1) ≡ true → eqb x 1 ≡ false
-not_one x e = else_not (eqb x 1) e
-  where
-    else_not : (b : Bool) → not b ≡ true → b ≡ false
-    else_not true e = absurd (no_truth e)
-    else_not false e = refl
+not_one x e = not-true (eqb x 1) e
 
 lacks : (set : RegSet) → eqb (bit_at set.bits 31) 1 ≡ false → set_has set zero_register ≡ false
 unfolding set_has
@@ -167,11 +159,11 @@ zero_is x e = ap (λ n. eqb n 1) e
 of-lacks_zero : (b : Bank) (set : RegSet) → are_of b set ≡ true → set_has set zero_register ≡ false
 of-lacks_zero General set e =
     lacks set (not_one (set.bits / 2 ^ 31 % 2)
-    (both_true (eqb (bank_bits General set) set.bits) (not (eqb (set.bits / 2 ^ 31 % 2) 1)) e).1)
+    (then_parts (eqb (bank_bits General set) set.bits) (not (eqb (set.bits / 2 ^ 31 % 2) 1)) e).1)
 of-lacks_zero Vector set e =
     lacks set (zero_is _ ((high-clear_general set (bank_bits Vector set) (vector-shifted set e)).bit 31 (omega arith)))
 of-lacks_zero Flags set e = lacks set (zero_is _ ((of-flags-general set e).bit 31 (omega arith)))
-of-lacks_zero Stack set e = absurd (no_truth e)
+of-lacks_zero Stack set e = absurd (false≢true e)
 
 pub only-lacks_zero : (b : Bank) (set : RegSet) → is_only_of b set ≡ true → set_has set zero_register ≡ false
 only-lacks_zero b set e = of-lacks_zero b set (only-is b set e).of

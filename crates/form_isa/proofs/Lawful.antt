@@ -1,8 +1,8 @@
 -- The instruction set of a lawful table is lawful.
-use Rattle.std.proofs.Common.{◌≡◌, ◌∙◌, sym, ap, subst, refl, ℕ, zero, suc, ◌<◌, ◌≤◌, Bool, true, false, cond, List, [], ◌∷◌, ◌++◌, length, arith}
+use Rattle.std.proofs.Common.{◌≡◌, ◌∙◌, sym, ap, subst, refl, ℕ, zero, suc, ◌≤◌, Bool, true, false, cond, List, [], ◌∷◌, length, arith}
 use Rattle.std.specs.Prelude.{nat_le, slice_get, Option, None, Some}
 use Rattle.std.specs.List.{list_all, list_any, zip}
-use Rattle.std.proofs.lemmas.Bool.{leb-true}
+use Rattle.std.proofs.lemmas.Bool.{leb-true, false≢true}
 use Rattle.std.proofs.lemmas.Option.{slice_get_within, same_Some}
 use Rattle.sl_model.specs.declared.register.Reg.{Reg}
 use Rattle.sl_model.specs.declared.instruction.ArchName.{ArchName}
@@ -15,12 +15,12 @@ use Rattle.sl_model.specs.RegSets.{set_has, set_count}
 use Rattle.sl_model.specs.Lawful.{IsValid, IsLawful, fit, suits_set, zero_register}
 use Rattle.form_table.specs.Rows.{row_operands}
 use Rattle.form_table.specs.declared.rows.Row.{Row}
-use Rattle.form_table.proofs.Unique.{both_true, no_truth}
 use Rattle.form_isa.specs.Info.{input_classes, output_classes, info_of, info_at}
 use Rattle.form_isa.specs.LawfulTable.{has_its_number, banks_of, are_only_of, is_lawful_row, is_lawful_table}
 use Rattle.form_isa.specs.TableIsa.{is_valid, meaning_values, row_values, table_isa}
 use Rattle.form_isa.proofs.Outputs.{banks, outputs-banks, outputs-lack_zero, padding-lacks_zero, FitBanks, fitting}
 use Rattle.form_isa.proofs.Values.{AreBounded, values-count, values-fit, banks-few}
+use Rattle.sl_laws.proofs.Tests.{then_parts}
 
 -- each row of a lawful table is lawful
 pub lawful-at : (table : List Row) (k : ℕ) (row : Row) → is_lawful_table table ≡ true → slice_get table k ≡ Some row →
@@ -28,16 +28,8 @@ pub lawful-at : (table : List Row) (k : ℕ) (row : Row) → is_lawful_table tab
 unfolding is_lawful_table
 lawful-at [] k row e at = absurd cc
 lawful-at (r ∷ rows) zero row e at =
-    subst (λ v. is_lawful_row v ≡ true) (same_Some r row at) (both_true (is_lawful_row r) (is_lawful_table rows) e).0
-lawful-at (r ∷ rows) (suc k) row e at = lawful-at rows k row (both_true (is_lawful_row r) (is_lawful_table rows) e).1 at
-
-pub lawful-append : (front back : List Row) → is_lawful_table front ≡ true → is_lawful_table back ≡ true →
-    is_lawful_table (front ++ back) ≡ true
-unfolding is_lawful_table
-lawful-append [] back e f = f
-lawful-append (row ∷ front) back e f =
-    let parts = both_true (is_lawful_row row) (is_lawful_table front) e in
-    ap (λ b. cond b (is_lawful_table (front ++ back)) false) parts.0 ∙ lawful-append front back parts.1 f
+    subst (λ v. is_lawful_row v ≡ true) (same_Some r row at) (then_parts (is_lawful_row r) (is_lawful_table rows) e).0
+lawful-at (r ∷ rows) (suc k) row e at = lawful-at rows k row (then_parts (is_lawful_row r) (is_lawful_table rows) e).1 at
 
 -- what the test of a row says
 pub record IsLawfulRow (row : Row) : Type 0 where
@@ -49,9 +41,9 @@ pub lawful-row : (row : Row) → is_lawful_row row ≡ true → IsLawfulRow row
 lawful-row row e =
     let numbered : Bool = has_its_number row.alias (row_operands row) in
     let one =
-    both_true (nat_le (length (input_classes row)) 4)
+    then_parts (nat_le (length (input_classes row)) 4)
     (cond (are_only_of (banks_of row.meaning) (output_classes row)) numbered false) e in
-    let two = both_true (are_only_of (banks_of row.meaning) (output_classes row)) numbered one.1 in
+    let two = then_parts (are_only_of (banks_of row.meaning) (output_classes row)) numbered one.1 in
     record { few = leb-true (length (input_classes row)) 4 one.0; outputs = two.0; number = two.1 }
 
 lawful-outputs : (row : Row) → is_lawful_row row ≡ true → are_only_of (banks_of row.meaning) (output_classes row) ≡ true
@@ -59,18 +51,8 @@ lawful-outputs row e = (lawful-row row e).outputs
 
 -- the form of an instruction is one of the table
 known-form : (o : Option Row) (op : Op) → is_valid o op ≡ true → (row : Row) × (o ≡ Some row)
-known-form None op e = absurd (no_truth e)
+known-form None op e = absurd (false≢true e)
 known-form (Some row) op e = (row, refl)
-
-pub known-row : (name : ArchName) (table : List Row) (i : Instr) → IsValid (table_isa name table) i → i.form < length table
-unfolding table_isa
-known-row name table i v =
-    let form = known-form (slice_get table i.form) (op_of i) v.op in slice_get_within table i.form form.0 form.1
-
-pub info-at_row : (name : ArchName) (table : List Row) (form : ℕ) (row : Row) → slice_get table form ≡ Some row →
-    (table_isa name table).info form ≡ info_of row
-unfolding table_isa
-info-at_row name table form row at = ap info_at at
 
 -- An instruction of a form writes registers of the banks of the form's meaning.
 writes-banks : (table : List Row) (row : Row) (i : Instr) → is_lawful_row row ≡ true → slice_get table i.form ≡ Some row →
@@ -123,7 +105,8 @@ unfolding info_of
 no-size None = refl
 no-size (Some row) = refl
 
-no-access : (o : Option Row) → has_access (info_at o) ≡ false
+-- no row accesses memory
+pub no-access : (o : Option Row) → has_access (info_at o) ≡ false
 unfolding info_of
 no-access None = refl
 no-access (Some row) = refl
@@ -134,15 +117,12 @@ no-store None = refl
 no-store (Some row) = refl
 
 clash : (b : Bool) → b ≡ false → b ≡ true → ⊥
-clash b e f = no_truth (sym e ∙ f)
+clash b e f = false≢true (sym e ∙ f)
 
 pub table-lawful : (table : List Row) → AreBounded → is_lawful_table table ≡ true → IsLawful (table_isa Arm64 table)
 unfolding table_isa
 table-lawful table known e = record {
-  spaces = refl;
-  limits = λ bank. refl;
   known = λ o v. let form = known-form (slice_get table o.form) o v in slice_get_within table o.form form.0 form.1;
-  space = omega arith;
   sizes = λ form. let none : (info_at (slice_get table form)).size ≡ 0 = no-size (slice_get table form) in omega arith;
   offset_low = λ o v. omega arith;
   offset_high = λ o v. omega arith;

@@ -1,3 +1,4 @@
+pub mod ForCallers
 pub mod Padded
 pub mod Banks
 pub mod Outputs
@@ -9,3 +10,4 @@ pub mod Ties
 pub mod Numbers
 pub mod Alone
 pub mod ReadValid
+pub mod TableLanguage

@@ -1,7 +1,7 @@
 -- The numbers of operands are those of the instruction, in the operands' ranges.
 use Rattle.std.proofs.Common.{◌≡◌, ◌∙◌, sym, ap, subst, refl, ℕ, zero, suc, ◌-◌, ◌==◌, ◌≤◌, true, false, cond, List, [], ◌∷◌, length, arith}
 use Rattle.std.specs.Prelude.{ℤ, pos, Option, Some, None, is_some, unwrap_or, slice_index_or}
-use Rattle.std.proofs.lemmas.Bool.{eqb-true}
+use Rattle.std.proofs.lemmas.Bool.{eqb-true, false≢true}
 use Rattle.std.proofs.lemmas.Bool.Decides.{nat_tests}
 use Rattle.form_table.specs.Rows.{row_operands}
 use Rattle.form_table.specs.Reads.{held_at, in_range, number_suits, numbers_suit, number_at}
@@ -10,10 +10,10 @@ use Rattle.form_table.specs.declared.rows.Range.{Range}
 use Rattle.form_table.specs.declared.rows.Operand.{Operand}
 use Rattle.form_table.specs.declared.rows.Row.{Row}
 use Rattle.form_table.specs.declared.spells.Held.{Held}
-use Rattle.form_table.proofs.Unique.{both_true, no_truth}
-use Rattle.form_table.proofs.Again.{IsShaped, Shaped, with_number, numbers_of}
+use Rattle.form_table.proofs.ForCallers.{IsShaped, Shaped, numbers_of, with_number}
 use Rattle.form_isa.specs.TableIsa.{ranges, numbers_fit, last_number}
 use Rattle.form_isa.specs.LawfulTable.{is_last_number}
+use Rattle.sl_laws.proofs.Tests.{some_value, then_parts}
 
 -- numbers of ranges, one each
 abbrev AreIn : List Range → List ℤ → Type 0
@@ -36,7 +36,7 @@ numbers-in [] (held ∷ helds) s e = absurd s
 numbers-in (operand ∷ operands) [] s e = absurd s
 numbers-in (operand ∷ operands) (held ∷ helds) s e =
     let shaped : IsShaped operand held = s.0 in
-    let parts = both_true (number_suits operand held.number) (numbers_suit operands helds) e in
+    let parts = then_parts (number_suits operand held.number) (numbers_suit operands helds) e in
     subst (λ has. AreIn (cond has (operand.range ∷ ranges operands) (ranges operands))
     (with_number held.number (numbers_of helds))) shaped.number
     (operand-in operand held.number (ranges operands) (numbers_of helds) parts.0 (numbers-in operands helds s.1 parts.1))
@@ -114,10 +114,6 @@ pub record EndsAt (place : ℕ) (operands : List Operand) (helds : List Held) : 
   pub some : 1 ≤ length (ranges operands)
   pub last : at (numbers_of helds) (length (ranges operands) - 1) ≡ number
 
-some_is : (o : Option ℤ) → is_some o ≡ true → (n : ℤ) × (o ≡ Some n)
-some_is None e = absurd (no_truth e)
-some_is (Some n) e = (n, refl)
-
 end-here : (o : Option ℤ) (n : ℤ) (range : Range) (rest : List Range) (numbers : List ℤ) → o ≡ Some n → length rest ≡ 0 →
     (1 ≤ length (range ∷ rest)) × (at (with_number o numbers) (length (range ∷ rest) - 1) ≡ n)
 end-here None n range rest numbers e none = absurd cc
@@ -137,12 +133,12 @@ end-behind (Some m) n range rest numbers some e =
 pub last-is : (place : ℕ) (operands : List Operand) (helds : List Held) → Shaped operands helds →
     is_last_number place operands ≡ true → EndsAt place operands helds
 unfolding is_last_number ranges
-last-is place [] helds s e = absurd (no_truth e)
+last-is place [] helds s e = absurd (false≢true e)
 last-is place (operand ∷ operands) [] s e = absurd s
 last-is zero (operand ∷ operands) (held ∷ helds) s e =
     let shaped : IsShaped operand held = s.0 in
-    let parts = both_true (has_number operand.shape) (length (ranges operands) == 0) e in
-    let there = some_is held.number (shaped.number ∙ parts.0) in
+    let parts = then_parts (has_number operand.shape) (length (ranges operands) == 0) e in
+    let there = some_value held.number (shaped.number ∙ parts.0) in
     let ends =
     end-here held.number there.0 operand.range (ranges operands) (numbers_of helds) there.1
     (eqb-true (length (ranges operands)) 0 parts.1) in

@@ -2,7 +2,7 @@
 use Rattle.std.proofs.Common.{◌≡◌, ◌∙◌, ap, refl, ℕ, zero, suc, ◌+◌, ◌<◌, ◌≤◌, true, false, cond, ◌&&◌, ◌||◌, eqb, List, [], ◌∷◌, length, map, arith}
 use Rattle.std.specs.Prelude.{nat_lt}
 use Rattle.std.specs.List.{list_all, list_any, zip}
-use Rattle.std.proofs.lemmas.Bool.{and_parts, lt-ltb}
+use Rattle.std.proofs.lemmas.Bool.{and_parts, lt-ltb, false≢true}
 use Rattle.sl_model.specs.declared.register.Bank.{Bank}
 use Rattle.sl_model.specs.declared.register.Reg.{Reg}
 use Rattle.sl_model.specs.declared.register.RegSet.{RegSet}
@@ -10,10 +10,10 @@ use Rattle.sl_model.specs.declared.instruction.ArchName.TheVariants.{Arm64}
 use Rattle.sl_model.specs.Machine.{limit_of}
 use Rattle.sl_model.specs.RegSets.{set_has, set_count}
 use Rattle.sl_model.specs.Lawful.{suits_set, zero_register}
-use Rattle.form_table.proofs.Unique.{both_true, no_truth}
 use Rattle.form_isa.specs.Info.{no_register, padded_classes}
 use Rattle.form_isa.specs.LawfulTable.{is_only_of, are_only_of}
 use Rattle.form_isa.proofs.Banks.{only-some, only-bank, only-lacks_zero}
+use Rattle.sl_laws.proofs.Tests.{then_parts}
 
 -- the banks of registers
 abbrev pub banks : List Reg → List Bank
@@ -43,16 +43,16 @@ unfolding are_only_of padded_classes
 outputs-banks n [] [] [] e few count suits = refl
 outputs-banks n [] [] (r ∷ regs) e few count suits =
     let none : suc (length regs) ≡ 0 = count ∙ count-none n in absurd (omega arith)
-outputs-banks n [] (set ∷ sets) regs e few count suits = absurd (no_truth e)
-outputs-banks n (b ∷ wanted) [] regs e few count suits = absurd (no_truth e)
+outputs-banks n [] (set ∷ sets) regs e few count suits = absurd (false≢true e)
+outputs-banks n (b ∷ wanted) [] regs e few count suits = absurd (false≢true e)
 outputs-banks zero (b ∷ wanted) (set ∷ sets) regs e few count suits = absurd (omega arith)
 outputs-banks (suc n) (b ∷ wanted) (set ∷ sets) [] e few count suits =
-    let parts = both_true (is_only_of b set) (are_only_of wanted sets) e in
+    let parts = then_parts (is_only_of b set) (are_only_of wanted sets) e in
     let none : 0 ≡ suc (set_count (padded_classes n sets)) =
     count ∙ count-suc set (padded_classes n sets) (only-some b set parts.0) in
     absurd (omega arith)
 outputs-banks (suc n) (b ∷ wanted) (set ∷ sets) (r ∷ regs) e few count suits =
-    let parts = both_true (is_only_of b set) (are_only_of wanted sets) e in
+    let parts = then_parts (is_only_of b set) (are_only_of wanted sets) e in
     let both = and_parts (suits_set (r, set)) (list_all suits_set (zip regs (padded_classes n sets))) suits in
     let less : length wanted ≤ n = omega arith in
     let rest : length regs ≡ set_count (padded_classes n sets) =
@@ -82,10 +82,10 @@ pub outputs-lack_zero : (n : ℕ) (wanted : List Bank) (sets : List RegSet) → 
 unfolding are_only_of padded_classes
 outputs-lack_zero zero wanted sets e = refl
 outputs-lack_zero (suc n) [] [] e = padding-lacks_zero (suc n)
-outputs-lack_zero (suc n) [] (set ∷ sets) e = absurd (no_truth e)
-outputs-lack_zero (suc n) (b ∷ wanted) [] e = absurd (no_truth e)
+outputs-lack_zero (suc n) [] (set ∷ sets) e = absurd (false≢true e)
+outputs-lack_zero (suc n) (b ∷ wanted) [] e = absurd (false≢true e)
 outputs-lack_zero (suc n) (b ∷ wanted) (set ∷ sets) e =
-    let parts = both_true (is_only_of b set) (are_only_of wanted sets) e in
+    let parts = then_parts (is_only_of b set) (are_only_of wanted sets) e in
     lacks_both set (padded_classes n sets) (only-lacks_zero b set parts.0) (outputs-lack_zero n wanted sets parts.1)
 
 -- Values fit registers of these banks, one each.
@@ -107,7 +107,7 @@ fitting (r ∷ regs) (value ∷ values) f =
 pub only-count : (wanted : List Bank) (sets : List RegSet) → are_only_of wanted sets ≡ true → length wanted ≡ length sets
 unfolding are_only_of
 only-count [] [] e = refl
-only-count [] (set ∷ sets) e = absurd (no_truth e)
-only-count (b ∷ wanted) [] e = absurd (no_truth e)
+only-count [] (set ∷ sets) e = absurd (false≢true e)
+only-count (b ∷ wanted) [] e = absurd (false≢true e)
 only-count (b ∷ wanted) (set ∷ sets) e =
-    ap suc (only-count wanted sets (both_true (is_only_of b set) (are_only_of wanted sets) e).1)
+    ap suc (only-count wanted sets (then_parts (is_only_of b set) (are_only_of wanted sets) e).1)

@@ -1,19 +1,18 @@
 -- Registers in so many places.
 use Rattle.std.proofs.Common.{◌≡◌, ◌∙◌, sym, ap, refl, ℕ, zero, suc, ◌+◌, ◌≤◌, Bool, true, false, cond, not, ◌&&◌, List, [], ◌∷◌, ◌++◌, length, arith}
 use Rattle.std.specs.Prelude.{Some, None, is_some}
-use Rattle.std.specs.List.{filter_map}
 use Rattle.std.proofs.lemmas.List.{append_assoc, append-nil}
 use Rattle.sl_model.specs.declared.register.Reg.{Reg}
 use Rattle.sl_model.specs.Register.{same_reg}
 use Rattle.sl_model.specs.Source.{padded, place_from}
 use Rattle.sl_model.specs.Body.{all_differ}
-use Rattle.sl_isa.specs.Arch.{flags_register}
+use Rattle.sl_isa.specs.Steps.{flags_register}
 use Rattle.form_table.specs.Rows.{row_operands}
 use Rattle.form_table.specs.Reads.{picked, placed, all_placed, flags_placed, inputs, results, stands_in, repeats}
 use Rattle.form_table.specs.declared.rows.Row.{Row}
 use Rattle.form_table.specs.declared.spells.Held.{Held}
 use Rattle.form_table.specs.declared.reader.Pick.TheVariants as pick
-use Rattle.form_table.proofs.Unique.{no_truth}
+use Rattle.sl_laws.proofs.Tests.{neither_parts}
 
 -- one more stands behind them, if there is a place
 placed-padded : (n : ℕ) (regs : List Reg) (r : Reg) → placed (padded n regs) r ≡ padded n (regs ++ r ∷ [])
@@ -65,18 +64,6 @@ unfolding results
 results-padded row helds =
     three-placed 3 (picked pick.Written (row_operands row) helds) (picked pick.Back (row_operands row) helds) row.sets_flags
 
--- The registers in so many places are those that were put there.
-pub padded-back : (n : ℕ) (regs : List Reg) → length regs ≤ n → filter_map (λ r. r) (padded n regs) ≡ regs
-padded-back zero [] few = refl
-padded-back zero (r ∷ regs) few = absurd (omega arith)
-padded-back (suc n) [] few = padded-back n [] (omega arith)
-padded-back (suc n) (r ∷ regs) few = ap (λ v. r ∷ v) (padded-back n regs (omega arith))
-
--- tests that don't hold
-neither : (a b : Bool) → cond a true b ≡ false → (a ≡ false) × (b ≡ false)
-neither true b e = absurd (no_truth (sym e))
-neither false b e = (refl, e)
-
 -- a register that stands at no place has none
 no-place : (n : ℕ) (r : Reg) (regs : List Reg) (from : ℕ) → length regs ≤ n → stands_in r (padded n regs) ≡ false →
     place_from from r regs ≡ None
@@ -84,7 +71,7 @@ unfolding stands_in place_from
 no-place n r [] from few e = refl
 no-place zero r (q ∷ regs) from few e = absurd (omega arith)
 no-place (suc n) r (q ∷ regs) from few e =
-    let parts = neither (same_reg q r) (stands_in r (padded n regs)) e in
+    let parts = neither_parts (same_reg q r) (stands_in r (padded n regs)) e in
     ap (λ b. cond b (Some from) (place_from (from + 1) r regs)) parts.0 ∙ no-place n r regs (from + 1) (omega arith) parts.1
 
 -- Registers of which none stands at two places differ.
@@ -93,6 +80,6 @@ unfolding repeats all_differ
 repeats-differ n [] few e = refl
 repeats-differ zero (r ∷ regs) few e = absurd (omega arith)
 repeats-differ (suc n) (r ∷ regs) few e =
-    let parts = neither (stands_in r (padded n regs)) (repeats (padded n regs)) e in
+    let parts = neither_parts (stands_in r (padded n regs)) (repeats (padded n regs)) e in
     let less : length regs ≤ n = omega arith in
     ap (λ o. not (is_some o) && all_differ regs) (no-place n r regs 0 less parts.0) ∙ repeats-differ n regs less parts.1

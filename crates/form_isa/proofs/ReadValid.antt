@@ -1,5 +1,5 @@
 -- What is read by a table is an instruction of its set.
-use Rattle.std.proofs.Common.{◌≡◌, ◌∙◌, sym, ap, subst, refl, ℕ, ◌≤◌, Bool, true, false, cond, not, List, length, arith}
+use Rattle.std.proofs.Common.{◌≡◌, ◌∙◌, sym, ap, subst, refl, ℕ, ◌≤◌, Bool, true, false, cond, List, length, arith}
 use Rattle.std.specs.Prelude.{Some, None, Result, Ok, Err, slice_get}
 use Rattle.std.specs.List.{list_all, zip, filter_map}
 use Rattle.sl_model.specs.declared.instruction.ArchName.{ArchName}
@@ -10,7 +10,7 @@ use Rattle.sl_model.specs.Source.{operands, outputs, padded}
 use Rattle.sl_model.specs.Body.{all_differ}
 use Rattle.sl_model.specs.Isa.{op_of}
 use Rattle.sl_model.specs.Lawful.{IsValid, suits_set, is_tied_to}
-use Rattle.sl_isa.specs.Arch.{IsRead}
+use Rattle.sl_isa.specs.Language.{IsRead}
 use Rattle.sl_isa.specs.declared.reasons.FormReason.{FormReason}
 use Rattle.sl_isa.specs.declared.reasons.FormReason.TheVariants.{ImmediateRange, RegisterClass, SameRegister}
 use Rattle.form_table.specs.Rows.{row_operands}
@@ -21,10 +21,7 @@ use Rattle.sl_model.specs.Token.{Lexeme}
 use Rattle.form_table.specs.declared.rows.Row.{Row}
 use Rattle.form_table.specs.declared.spells.Held.{Held}
 use Rattle.form_table.specs.declared.reader.Pick.TheVariants as pick
-use Rattle.form_table.proofs.Unique.{both_true}
-use Rattle.form_table.proofs.Again.{Shaped}
-use Rattle.form_table.proofs.Filled.{filled_shaped}
-use Rattle.form_table.proofs.ReadAgain.{IsReadBy, read_kept}
+use Rattle.form_table.proofs.ForCallers.{IsReadBy, Shaped, filled_shaped, form_of, not_refused, read_kept, same_Ok, operands_machine, outputs_machine}
 use Rattle.form_isa.specs.Info.{classes, input_classes, output_classes, padded_classes, ties, padded_ties, info_of, info_at}
 use Rattle.form_isa.specs.LawfulTable.{banks_of, is_lawful_row, is_lawful_table}
 use Rattle.form_isa.specs.TableIsa.{last_number, is_kept, takes, is_valid, table_isa}
@@ -32,24 +29,17 @@ use Rattle.form_isa.proofs.Lawful.{IsLawfulRow, lawful-row, lawful-at}
 use Rattle.form_isa.proofs.Alone.{kept-alone}
 use Rattle.form_isa.proofs.Numbers.{three, three-fits}
 use Rattle.form_isa.proofs.Outputs.{only-count}
-use Rattle.form_isa.proofs.Places.{read_regs, written_regs, inputs-padded, results-padded, padded-back, repeats-differ}
+use Rattle.form_isa.proofs.Places.{read_regs, written_regs, inputs-padded, results-padded, repeats-differ}
 use Rattle.form_isa.proofs.Suits.{AreOf, picked-of, read-of, written-of, of-count, of-counted, of-suit}
 use Rattle.form_isa.proofs.Ties.{row-tied}
 use Rattle.form_isa.proofs.Values.{banks-few}
-
--- An answer is given where no test refuses.
-not-refused : (b : Bool) (reason : FormReason) (x : Result Instr FormReason) (i : Instr) → cond (not b) (Err reason) x ≡ Ok i →
-    (b ≡ true) × (x ≡ Ok i)
-not-refused true reason x i e = (refl, e)
-not-refused false reason x i e = absurd cc
+use Rattle.sl_laws.proofs.Tests.{then_parts}
+use Rattle.sl_laws.proofs.Padded.{padded-back}
 
 passed : (b : Bool) (reason : FormReason) (x : Result Instr FormReason) (i : Instr) → cond b (Err reason) x ≡ Ok i →
     (b ≡ false) × (x ≡ Ok i)
 passed true reason x i e = absurd cc
 passed false reason x i e = (refl, e)
-
-same-Ok : (i j : Instr) → (let a : Result Instr FormReason = Ok i in a ≡ Ok j) → i ≡ j
-same-Ok i j e = cc
 
 -- what was judged to be an instruction
 pub record IsJudged (form : ℕ) (row : Row) (helds : List Held) (i : Instr) : Type 0 where
@@ -63,9 +53,9 @@ pub judged-is : (form : ℕ) (row : Row) (helds : List Held) (i : Instr) → jud
     IsJudged form row helds i
 unfolding judged
 judged-is form row helds i e =
-    let one = not-refused (numbers_suit (row_operands row) helds) ImmediateRange _ i e in
-    let two = not-refused (sum_suits row.sum (number_at 0 helds) (number_at 1 helds)) ImmediateRange _ i one.1 in
-    let three = not-refused (registers_suit (row_operands row) helds) RegisterClass _ i two.1 in
+    let one = not_refused (numbers_suit (row_operands row) helds) ImmediateRange _ i e in
+    let two = not_refused (sum_suits row.sum (number_at 0 helds) (number_at 1 helds)) ImmediateRange _ i one.1 in
+    let three = not_refused (registers_suit (row_operands row) helds) RegisterClass _ i two.1 in
     let four = passed (repeats (results row helds)) SameRegister _ i three.1 in
     let five = passed (shares_base row helds) SameRegister _ i four.1 in
     record {
@@ -73,7 +63,7 @@ judged-is form row helds i e =
       sum = two.0;
       registers = three.0;
       distinct = four.0;
-      made = same-Ok (instr_of form row helds) i five.1;
+      made = same_Ok (instr_of form row helds) i five.1;
     }
 
 -- a row with its operands, as it was read
@@ -133,22 +123,18 @@ takes-it form row helds own =
     ap (λ b. cond b (cond sums alone false) false) (three-fits (row_operands row) helds own.shaped own.numbers)
     ∙ (ap (λ b. cond b alone false) own.sum ∙ own.alone)
 
-form-is : (form : ℕ) (row : Row) (helds : List Held) → (instr_of form row helds).form ≡ form
-unfolding instr_of
-form-is form row helds = refl
-
 -- the form as the table has it
 info-is : (name : ArchName) (table : List Row) (form : ℕ) (row : Row) (helds : List Held) → slice_get table form ≡ Some row →
     (table_isa name table).info (instr_of form row helds).form ≡ info_of row
 unfolding table_isa
-info-is name table form row helds at = ap (λ n. info_at (slice_get table n)) (form-is form row helds) ∙ ap info_at at
+info-is name table form row helds at = ap (λ n. info_at (slice_get table n)) (form_of form row helds) ∙ ap info_at at
 
 valid-is : (name : ArchName) (table : List Row) (form : ℕ) (row : Row) (helds : List Held) → slice_get table form ≡ Some row →
     IsOwn row helds →
     (table_isa name table).valid (op_of (instr_of form row helds)) ≡ true
 unfolding table_isa
 valid-is name table form row helds at own =
-    ap (λ n. is_valid (slice_get table n) (op_of (instr_of form row helds))) (form-is form row helds)
+    ap (λ n. is_valid (slice_get table n) (op_of (instr_of form row helds))) (form_of form row helds)
     ∙ (ap (λ o. is_valid o (op_of (instr_of form row helds))) at ∙ takes-it form row helds own)
 
 read-classes : (row : Row) (helds : List Held) (i : Instr) → HasRegs row helds i →
@@ -219,11 +205,16 @@ made-plain : (form : ℕ) (row : Row) (helds : List Held) →
 unfolding instr_of
 made-plain form row helds = (refl, refl, refl, refl)
 
-pub made-read : (name : ArchName) (table : List Row) (form : ℕ) (row : Row) (helds : List Held) →
+-- A made instruction is of the set, and stands on no line yet.
+abbrev IsMade : (name : ArchName) (table : List Row) → Instr → Type 0
+IsMade name table i = IsValid (table_isa name table) i × (i.tag ≡ None) × (i.early ≡ false) × (i.late ≡ false) × (i.line ≡ 0)
+
+made-is : (name : ArchName) (table : List Row) (form : ℕ) (row : Row) (helds : List Held) →
     slice_get table form ≡ Some row → is_lawful_row row ≡ true →
-    IsOwn row helds → IsRead (table_isa name table) (instr_of form row helds)
-made-read name table form row helds at lawful own =
-    record { valid = made-valid name table form row helds at lawful own; plain = made-plain form row helds }
+    IsOwn row helds → IsMade name table (instr_of form row helds)
+made-is name table form row helds at lawful own =
+    let plain = made-plain form row helds in
+    (made-valid name table form row helds at lawful own, plain.0, plain.1, plain.2, plain.3)
 
 -- Where a form of the table keeps what its operands hold, and was judged to be an instruction, its operands are its own.
 own-is : (table : List Row) (i : Instr) (r : IsReadBy table i) → all_kept table table ≡ true → is_lawful_row r.kept.row ≡ true →
@@ -245,9 +236,16 @@ pub read-valid : (name : ArchName) (table : List Row) (words : List Lexeme) (i :
     is_lawful_table table ≡ true →
     reads table words ≡ Ok i → IsRead (table_isa name table) i
 read-valid name table words i tests lawful e =
-    let one = both_true (tables.all_differ table) (cond (all_kept table table) (all_rows table) false) tests in
-    let two = both_true (all_kept table table) (all_rows table) one.1 in
+    let one = then_parts (tables.all_differ table) (cond (all_kept table table) (all_rows table) false) tests in
+    let two = then_parts (all_kept table table) (all_rows table) one.1 in
     let r : IsReadBy table i = read_kept table words i tests e in
     let row_lawful : is_lawful_row r.kept.row ≡ true = lawful-at table r.fit.form r.kept.row lawful r.kept.at in
-    subst (λ (j : Instr). IsRead (table_isa name table) j) (judged-is r.fit.form r.kept.row r.fit.helds i r.judges).made
-    (made-read name table r.fit.form r.kept.row r.fit.helds r.kept.at row_lawful (own-is table i r two.0 row_lawful))
+    let made : IsMade name table i =
+    subst (λ (j : Instr). IsMade name table j) (judged-is r.fit.form r.kept.row r.fit.helds i r.judges).made
+    (made-is name table r.fit.form r.kept.row r.fit.helds r.kept.at row_lawful (own-is table i r two.0 row_lawful)) in
+    record {
+      valid = made.0;
+      plain = (made.1, made.2, made.3, made.4);
+      operands_known = operands_machine table words i e;
+      outputs_known = outputs_machine table words i e;
+    }

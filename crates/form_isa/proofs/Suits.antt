@@ -9,7 +9,7 @@ use Rattle.std.proofs.lemmas.Nat.Bits.{bit_at-zero}
 use Rattle.sl_model.specs.declared.register.Reg.{Reg}
 use Rattle.sl_model.specs.declared.register.RegSet.{RegSet}
 use Rattle.sl_model.specs.RegSets.{bit_of, is_in_bank, set_has, set_count}
-use Rattle.sl_model.specs.Lawful.{is_of_bank, suits_set}
+use Rattle.sl_model.specs.Lawful.{suits_set}
 use Rattle.form_table.specs.Rows.{row_operands}
 use Rattle.form_table.specs.Reads.{is_picked, kept, picked, register_suits, registers_suit}
 use Rattle.form_table.specs.Printed.{has_register}
@@ -18,11 +18,12 @@ use Rattle.form_table.specs.declared.rows.Row.{Row}
 use Rattle.form_table.specs.declared.spells.Held.{Held}
 use Rattle.form_table.specs.declared.reader.Pick.{Pick}
 use Rattle.form_table.specs.declared.reader.Pick.TheVariants as pick
-use Rattle.form_table.proofs.Unique.{both_true, no_truth}
-use Rattle.form_table.proofs.Again.{IsShaped, Shaped}
+use Rattle.form_table.proofs.ForCallers.{IsShaped, Shaped}
 use Rattle.form_isa.specs.Info.{classes, flags_if, input_classes, output_classes, padded_classes}
 use Rattle.form_isa.proofs.Outputs.{count-none, count-suc}
 use Rattle.form_isa.proofs.Places.{flags_among, read_regs, written_regs}
+use Rattle.sl_laws.proofs.Tests.{then_parts}
+use Rattle.sl_laws.proofs.RegSets.{suits-from_set}
 
 -- registers of classes, one each
 abbrev pub AreOf : List Reg → List RegSet → Type 0
@@ -59,7 +60,7 @@ picked-of which [] (held ∷ helds) s e = absurd s
 picked-of which (operand ∷ operands) [] s e = absurd s
 picked-of which (operand ∷ operands) (held ∷ helds) s e =
     let shaped : IsShaped operand held = s.0 in
-    let parts = both_true (register_suits operand held.register) (registers_suit operands helds) e in
+    let parts = then_parts (register_suits operand held.register) (registers_suit operands helds) e in
     kept-of (has_register operand.shape) (is_picked which operand.role) held.register operand (picked which operands helds)
     (classes which operands)
     shaped.register parts.0 (picked-of which operands helds s.1 parts.1)
@@ -124,17 +125,6 @@ of-counted zero (r ∷ regs) (set ∷ sets) few a = absurd (omega arith)
 of-counted (suc n) (r ∷ regs) (set ∷ sets) few a =
     ap suc (of-counted n regs sets (omega arith) a.1) ∙ sym (count-suc set (padded_classes n sets) (some-bits set r a.0))
 
--- a register of a class suits it
-not-true : (b : Bool) → not b ≡ true → b ≡ false
-not-true true e = absurd (no_truth e)
-not-true false e = refl
-
-has-suits : (set : RegSet) (r : Reg) → set_has set r ≡ true → suits_set (r, set) ≡ true
-unfolding set_has
-has-suits set r e =
-    let parts = and_parts (not r.symbolic) (eqb (bit_at set.bits (bit_of r.bank r.number)) 1 && is_in_bank r) e in
-    ap (λ b. cond b (is_of_bank r.bank set) (set_has set r)) (not-true r.symbolic parts.0) ∙ e
-
 pub of-suit : (n : ℕ) (regs : List Reg) (sets : List RegSet) → AreOf regs sets →
     list_all suits_set (zip regs (padded_classes n sets)) ≡ true
 unfolding padded_classes
@@ -143,4 +133,4 @@ of-suit n [] (set ∷ sets) a = absurd a
 of-suit n (r ∷ regs) [] a = absurd a
 of-suit zero (r ∷ regs) (set ∷ sets) a = refl
 of-suit (suc n) (r ∷ regs) (set ∷ sets) a =
-    ap (λ b. b && list_all suits_set (zip regs (padded_classes n sets))) (has-suits set r a.0) ∙ of-suit n regs sets a.1
+    ap (λ b. b && list_all suits_set (zip regs (padded_classes n sets))) (suits-from_set r set a.0) ∙ of-suit n regs sets a.1

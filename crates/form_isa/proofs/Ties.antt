@@ -2,9 +2,7 @@
 use Rattle.std.proofs.Common.{◌≡◌, ◌∙◌, sym, ap, subst, refl, ℕ, zero, suc, ◌+◌, Bool, true, false, cond, ◌&&◌, List, [], ◌∷◌, ◌++◌, length, arith}
 use Rattle.std.specs.Prelude.{Option, Some, None, is_some, slice_get}
 use Rattle.std.specs.List.{list_all, zip}
-use Rattle.std.proofs.lemmas.Bool.{and_from, eq-eqb}
 use Rattle.sl_model.specs.declared.register.Reg.{Reg}
-use Rattle.sl_model.specs.Register.{bank_number, same_bool, same_reg}
 use Rattle.sl_model.specs.Lawful.{is_some_reg, is_reg_at, is_tied_to}
 use Rattle.form_table.specs.Rows.{row_operands}
 use Rattle.form_table.specs.Reads.{is_picked, kept, picked}
@@ -14,20 +12,11 @@ use Rattle.form_table.specs.declared.rows.Operand.{Operand}
 use Rattle.form_table.specs.declared.rows.Row.{Row}
 use Rattle.form_table.specs.declared.spells.Held.{Held}
 use Rattle.form_table.specs.declared.reader.Pick.TheVariants as pick
-use Rattle.form_table.proofs.Again.{IsShaped, Shaped}
+use Rattle.form_table.proofs.ForCallers.{IsShaped, Shaped}
 use Rattle.form_isa.specs.Info.{classes, ties, padded_ties}
 use Rattle.form_isa.proofs.Places.{flags_among, read_regs, written_regs}
-
--- a register is its own
-same_own : (b : Bool) → same_bool b b ≡ true
-same_own true = refl
-same_own false = refl
-
-reg-own : (r : Reg) → same_reg r r ≡ true
-unfolding same_reg
-reg-own r =
-    and_from _ _ (eq-eqb (bank_number r.bank) (bank_number r.bank) refl)
-    (and_from _ _ (same_own r.symbolic) (eq-eqb r.number r.number refl))
+use Rattle.sl_laws.proofs.Elements.{slice_get-front}
+use Rattle.sl_laws.proofs.Registers.{same_reg-refl}
 
 -- From a place on, these registers stand in a list.
 abbrev pub StandFrom : List Reg → ℕ → List Reg → Type 0
@@ -37,7 +26,7 @@ stand-first : (ins : List Reg) (from : ℕ) (r : Reg) (regs : List Reg) → Stan
     is_reg_at ins from r ≡ true
 stand-first ins from r regs h =
     let here : from + 0 ≡ from = omega arith in
-    ap (λ o. is_some_reg o r) (ap (slice_get ins) (sym here) ∙ h 0 r refl) ∙ reg-own r
+    ap (λ o. is_some_reg o r) (ap (slice_get ins) (sym here) ∙ h 0 r refl) ∙ same_reg-refl r
 
 stand-next : (ins : List Reg) (from : ℕ) (r : Reg) (regs : List Reg) → StandFrom ins from (r ∷ regs) →
     StandFrom ins (from + 1) regs
@@ -121,14 +110,8 @@ behind-at (x ∷ front) back k =
     let same : suc (length front) + k ≡ suc (length front + k) = omega arith in
     ap (slice_get (x ∷ (front ++ back))) same ∙ behind-at front back k
 
-front-at : {A : Type 0} (front back : List A) (k : ℕ) (x : A) → slice_get front k ≡ Some x →
-    slice_get (front ++ back) k ≡ Some x
-front-at [] back k x e = absurd cc
-front-at (y ∷ front) back zero x e = e
-front-at (y ∷ front) back (suc k) x e = front-at front back k x e
-
 tied-stand : (read tied more : List Reg) → StandFrom (read ++ (tied ++ more)) (length read) tied
-tied-stand read tied more k r e = behind-at read (tied ++ more) k ∙ front-at tied more k r e
+tied-stand read tied more k r e = behind-at read (tied ++ more) k ∙ slice_get-front tied more k r e
 
 -- The outputs of a row's instruction are tied as the row says.
 pub row-tied : (row : Row) (helds : List Held) (n : ℕ) → Shaped (row_operands row) helds →

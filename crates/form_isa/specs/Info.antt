@@ -1,5 +1,5 @@
--- What a row says of its form: the registers of its operands and outputs, and which outputs are tied.
--- No row accesses memory yet. Source: this project's own format.
+-- What a row says of its form: the registers of its operands and outputs, and which outputs are
+-- tied. No row accesses memory yet. Source: this project's own format.
 use Rattle.std.specs.Prelude.{ℕ, ◌+◌, ◌^◌, Bool, true, false, zero, suc, List, [], ◌∷◌, ◌++◌, length, Option, None, Some, if◌then◌else◌}
 use Rattle.sl_model.specs.declared.register.RegSet.{RegSet}
 use Rattle.sl_model.specs.declared.instruction.FormInfo.{FormInfo}
@@ -11,9 +11,11 @@ use Rattle.form_table.specs.declared.rows.Row.{Row}
 use Rattle.form_table.specs.declared.reader.Pick.{Pick}
 use Rattle.form_table.specs.declared.reader.Pick.TheVariants as pick
 
+-- the class of no register
 abbrev pub no_register : RegSet
 no_register = record { bits = 0 }
 
+-- the class of the flags
 abbrev pub the_flags : RegSet
 the_flags = record { bits = 2 ^ 64 }
 
@@ -24,19 +26,25 @@ is_taken pick operand = if has_register operand.shape then is_picked pick operan
 -- the classes of the operands whose roles are picked, in their order
 unfoldable pub classes : Pick → List Operand → List RegSet
 classes pick [] = []
-classes pick (operand ∷ operands) = if is_taken pick operand then operand.class ∷ classes pick operands else classes pick operands
+classes pick (operand ∷ operands) =
+    if is_taken pick operand then operand.class ∷ classes pick operands else classes pick operands
 
 -- the flags, where there are any
 abbrev pub flags_if : Bool → List RegSet
 flags_if false = []
 flags_if true = the_flags ∷ []
 
--- the classes of inputs and of outputs, in the order of an instruction's registers
+-- the classes of a row's inputs, in the order of an instruction's registers
 unfoldable pub input_classes : Row → List RegSet
-input_classes row = classes pick.Read (row_operands row) ++ (classes pick.Tied (row_operands row) ++ flags_if row.reads_flags)
+input_classes row =
+    classes pick.Read (row_operands row)
+    ++ (classes pick.Tied (row_operands row) ++ flags_if row.reads_flags)
 
+-- the classes of its outputs, in their order
 unfoldable pub output_classes : Row → List RegSet
-output_classes row = classes pick.Written (row_operands row) ++ (classes pick.Back (row_operands row) ++ flags_if row.sets_flags)
+output_classes row =
+    classes pick.Written (row_operands row)
+    ++ (classes pick.Back (row_operands row) ++ flags_if row.sets_flags)
 
 -- classes in so many places, and none in the last ones
 unfoldable pub padded_classes : ℕ → List RegSet → List RegSet
@@ -51,6 +59,7 @@ ties next (operand ∷ operands) =
     if is_taken pick.Tied operand then Some next ∷ ties (next + 1) operands
     else (if is_taken pick.Written operand then None ∷ ties next operands else ties next operands)
 
+-- ties of so many outputs, where the last ones have none
 unfoldable pub padded_ties : ℕ → List (Option ℕ) → List (Option ℕ)
 padded_ties zero places = []
 padded_ties (suc n) [] = None ∷ padded_ties n []
@@ -82,6 +91,7 @@ no_info = record {
   size = 0;
 }
 
+-- what is said of a form whose row may be missing
 abbrev pub info_at : Option Row → FormInfo
 info_at None = no_info
 info_at (Some row) = info_of row

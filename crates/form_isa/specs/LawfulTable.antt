@@ -1,5 +1,5 @@
--- Tests of tables, which the checker computes: a row writes what its meaning gives, and its instructions are known by their
--- numbers. Source: this project's own.
+-- Tests of tables, which the checker computes: a row writes what its meaning gives, and its
+-- instructions are known by their numbers. Source: this project's own.
 use Rattle.std.specs.Prelude.{ℕ, ◌*◌, ◌==◌, ◌%◌, ◌/◌, ◌^◌, Bool, true, false, zero, suc, not, List, [], ◌∷◌, length, nat_le, if◌then◌else◌}
 use Rattle.sl_model.specs.declared.register.Bank.{Bank}
 use Rattle.sl_model.specs.declared.register.Bank.TheVariants as bank
@@ -20,22 +20,25 @@ use Rattle.form_table.specs.declared.rows.Row.{Row}
 use Rattle.form_isa.specs.TableIsa.{ranges}
 use Rattle.form_isa.specs.Info.{input_classes, output_classes}
 
--- the banks of a meaning's outputs
+-- the banks of the outputs of a scalar meaning
 abbrev pub scalar_banks : Scalar → List Bank
 scalar_banks (scalar.Sum minus second carries true) = bank.General ∷ bank.Flags ∷ []
 scalar_banks _ = bank.General ∷ []
 
+-- the bank of the output of a vector meaning
 abbrev pub vector_banks : Vector → List Bank
 vector_banks (vector.MoveOut lane) = bank.General ∷ []
 vector_banks _ = bank.Vector ∷ []
 
+-- the banks of the outputs of a meaning
 abbrev pub banks_of : Meaning → List Bank
 banks_of (meaning.Scalar op size) = scalar_banks op
 banks_of (meaning.Vector op) = vector_banks op
 
 -- Are all registers of a set of a bank, and none of them the zero register?
 abbrev pub are_of : Bank → RegSet → Bool
-are_of bank.General set = if bank_bits bank.General set == set.bits then not (set.bits / 2 ^ 31 % 2 == 1) else false
+are_of bank.General set =
+    if bank_bits bank.General set == set.bits then not (set.bits / 2 ^ 31 % 2 == 1) else false
 are_of bank.Vector set = set.bits == bank_bits bank.Vector set * 2 ^ 32
 are_of bank.Flags set = set.bits == 2 ^ 64
 are_of bank.Stack set = false
@@ -44,6 +47,7 @@ are_of bank.Stack set = false
 abbrev pub is_only_of : Bank → RegSet → Bool
 is_only_of b set = if set.bits == 0 then false else are_of b set
 
+-- Are these sets one for each bank, each of registers of its bank alone?
 unfoldable pub are_only_of : List Bank → List RegSet → Bool
 are_only_of [] [] = true
 are_only_of [] (set ∷ sets) = false
@@ -53,10 +57,12 @@ are_only_of (b ∷ banks) (set ∷ sets) = if is_only_of b set then are_only_of 
 -- Is the number of the operand at a place the last one?
 unfoldable pub is_last_number : ℕ → List Operand → Bool
 is_last_number place [] = false
-is_last_number zero (operand ∷ operands) = if has_number operand.shape then length (ranges operands) == 0 else false
+is_last_number zero (operand ∷ operands) =
+    if has_number operand.shape then length (ranges operands) == 0 else false
 is_last_number (suc place) (operand ∷ operands) = is_last_number place operands
 
--- A number that makes a spelling one of another row where it is 0 is the last one, and has its place in an instruction.
+-- A number that makes a spelling one of another row where it is 0 is the last one, and
+-- has its place in an instruction.
 abbrev pub has_its_number : Alias → List Operand → Bool
 has_its_number alias.Own operands = true
 has_its_number (alias.As form) operands = true
@@ -64,13 +70,17 @@ has_its_number (alias.Repeat form) operands = true
 has_its_number (alias.ZeroAs form place) operands =
     if nat_le (length (ranges operands)) 3 then is_last_number place operands else false
 
--- Is a row lawful: it has at most four inputs, writes what its meaning gives, and tells its own instructions by their numbers?
+-- Is a row lawful: it has at most four inputs, writes what its meaning gives, and tells its own
+-- instructions by their numbers?
 abbrev pub is_lawful_row : Row → Bool
 is_lawful_row row =
     if nat_le (length (input_classes row)) 4 then
-    (if are_only_of (banks_of row.meaning) (output_classes row) then has_its_number row.alias (row_operands row) else false)
+    (if are_only_of (banks_of row.meaning) (output_classes row)
+    then has_its_number row.alias (row_operands row)
+    else false)
     else false
 
+-- Are all rows of a table lawful?
 unfoldable pub is_lawful_table : List Row → Bool
 is_lawful_table [] = true
 is_lawful_table (row ∷ rows) = if is_lawful_row row then is_lawful_table rows else false

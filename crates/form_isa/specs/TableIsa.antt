@@ -1,33 +1,38 @@
--- The instruction set of a table of rows. Source: this project's own format; what instructions compute has its source in the
--- definitions of their meanings.
+-- The instruction set of a table of rows. Source: this project's own format; what instructions
+-- compute has its source in the definitions of their meanings.
 use Rattle.std.specs.Prelude.{ℕ, ℤ, pos, ◌==◌, ◌-◌, Bool, true, false, not, List, [], ◌∷◌, length, slice_get, slice_index_or, unsigned_abs, Option, None, Some, if◌then◌else◌}
 use Rattle.sl_model.specs.declared.instruction.ArchName.{ArchName}
-use Rattle.sl_model.specs.Machine.{space_of, limit_of}
+use Rattle.sl_model.specs.declared.register.Reg.{Reg}
+use Rattle.sl_model.specs.declared.instruction.Instr.{Instr}
 use Rattle.sl_model.specs.Isa.{Isa, Op}
 use Rattle.sl_isa.specs.declared.meaning.Meaning.{Meaning}
 use Rattle.sl_isa.specs.declared.meaning.Meaning.TheVariants as meaning
 use Rattle.scalar_ops.specs.Scalar.{bits_of, scalar_values}
 use Rattle.lane_ops.specs.Vector.{vector_value}
 use Rattle.form_table.specs.Rows.{row_operands}
-use Rattle.form_table.specs.Reads.{in_range, sum_suits}
-use Rattle.form_table.specs.Printed.{has_number}
+use Rattle.form_table.specs.Reads.{in_range, sum_suits, reads}
+use Rattle.form_table.specs.Printed.{has_number, printed}
 use Rattle.form_table.specs.declared.rows.Range.{Range}
 use Rattle.form_table.specs.declared.rows.Operand.{Operand}
 use Rattle.form_table.specs.declared.rows.Alias.{Alias}
 use Rattle.form_table.specs.declared.rows.Alias.TheVariants as alias
 use Rattle.form_table.specs.declared.rows.Row.{Row}
 use Rattle.form_isa.specs.Info.{info_at}
+use Rattle.sl_isa.specs.declared.arch.CounterOp.{CounterOp}
+use Rattle.sl_isa.specs.Language.{Language}
 
 -- the ranges of the numbers of operands, in their order
 unfoldable pub ranges : List Operand → List Range
 ranges [] = []
-ranges (operand ∷ operands) = if has_number operand.shape then operand.range ∷ ranges operands else ranges operands
+ranges (operand ∷ operands) =
+    if has_number operand.shape then operand.range ∷ ranges operands else ranges operands
 
 -- Are numbers in their ranges, and is 0 where an instruction has none?
 unfoldable pub numbers_fit : List Range → List ℤ → Bool
 numbers_fit ranges [] = true
 numbers_fit [] (n ∷ numbers) = if unsigned_abs n == 0 then numbers_fit [] numbers else false
-numbers_fit (range ∷ ranges) (n ∷ numbers) = if in_range range n then numbers_fit ranges numbers else false
+numbers_fit (range ∷ ranges) (n ∷ numbers) =
+    if in_range range n then numbers_fit ranges numbers else false
 
 -- the last number of an instruction of a row, and 0 where it has none
 abbrev pub last_number : Row → List ℤ → ℤ
@@ -44,10 +49,12 @@ is_kept (alias.ZeroAs form place) n = not (unsigned_abs n == 0)
 unfoldable pub takes : Row → List ℤ → Bool
 takes row imms =
     if numbers_fit (ranges (row_operands row)) imms then
-    (if sum_suits row.sum (slice_index_or imms 0 (pos 0)) (slice_index_or imms 1 (pos 0)) then is_kept row.alias (last_number row imms)
+    (if sum_suits row.sum (slice_index_or imms 0 (pos 0)) (slice_index_or imms 1 (pos 0))
+    then is_kept row.alias (last_number row imms)
     else false)
     else false
 
+-- Is there a row, and has it such an instruction?
 abbrev pub is_valid : Option Row → Op → Bool
 is_valid None o = false
 is_valid (Some row) o = if o.wide then false else takes row o.imms
@@ -57,6 +64,7 @@ abbrev pub meaning_values : Meaning → List ℤ → List ℕ → List ℕ
 meaning_values (meaning.Scalar op size) imms ins = scalar_values op (bits_of size) imms ins
 meaning_values (meaning.Vector op) imms ins = vector_value op imms ins ∷ []
 
+-- the values of the outputs by a row, if there is one
 abbrev pub row_values : Option Row → List ℤ → List ℕ → List ℕ
 row_values None imms ins = []
 row_values (Some row) imms ins = meaning_values row.meaning imms ins
@@ -66,11 +74,19 @@ unfoldable pub table_isa : ArchName → List Row → Isa
 table_isa name table = record {
   name = name;
   forms = length table;
-  space = space_of name;
-  limit = limit_of name;
   valid = λ o. is_valid (slice_get table o.form) o;
   info = λ form. info_at (slice_get table form);
   offset = λ o. pos 0;
   values = λ o ins loaded. row_values (slice_get table o.form) o.imms ins;
   stored = λ o ins. [];
+}
+
+-- the language of a table: its instruction set, whose instructions are read and printed by its
+-- rows, with these steps of a counter
+unfoldable pub table_language : ArchName → List Row → (CounterOp → Reg → ℕ → Instr) → Language
+table_language name table step_of = record {
+  isa = table_isa name table;
+  reads = reads table;
+  printed = printed table;
+  step_of = step_of;
 }

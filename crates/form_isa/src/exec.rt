@@ -8,8 +8,8 @@ use lane_ops::vector_value;
 use scalar_ops::scalar_values;
 use sl_isa::meaning::Meaning;
 
-/// The values of the outputs of a row's instruction, from its numbers and the values of its operands. Places that it
-/// doesn't fill are 0.
+/// The values of the outputs of a row's instruction, from its numbers and the values of its
+/// operands. Places that it doesn't fill are 0.
 #[tactic(auto, unfolding(sl_isa::specs::Arch::padded_values))]
 pub fn values_of(row: &Row, imms: &[i64], ins: &[u128]) -> [u128; 3]
     ensures { result ≡ padded_values 3 (meaning_values row.now.meaning imms.now ins.now) }

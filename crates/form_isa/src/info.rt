@@ -26,7 +26,8 @@ fn is_taken(pick: Pick, operand: &Operand) -> bool
 // A class before others.
 #[tactic(auto, using(crate::proofs::Padded::padded_cons))]
 fn put_before(class: RegSet, others: [RegSet; 4]) -> [RegSet; 4]
-    ensures { (sets : List RegSet) → others ≡ spec.padded_classes 4 sets → result ≡ spec.padded_classes 4 (class ∷ sets) }
+    ensures { (sets : List RegSet) → others ≡ spec.padded_classes 4 sets
+        → result ≡ spec.padded_classes 4 (class ∷ sets) }
 {
     [class, others[0], others[1], others[2]]
 }
@@ -34,12 +35,14 @@ fn put_before(class: RegSet, others: [RegSet; 4]) -> [RegSet; 4]
 // The first three of four.
 #[tactic(auto, using(crate::proofs::Padded::padded_three))]
 fn first_three(classes: [RegSet; 4]) -> [RegSet; 3]
-    ensures { (sets : List RegSet) → classes ≡ spec.padded_classes 4 sets → result ≡ spec.padded_classes 3 sets }
+    ensures { (sets : List RegSet) → classes ≡ spec.padded_classes 4 sets
+        → result ≡ spec.padded_classes 3 sets }
 {
     [classes[0], classes[1], classes[2]]
 }
 
-// The classes of the operands whose roles are picked, and then others. What doesn't stand in four places is left out.
+// The classes of the operands whose roles are picked, and then others. What doesn't
+// stand in four places is left out.
 #[tactic(auto, unfolding(crate::specs::Info::classes))]
 fn with_classes(pick: Pick, operands: &[Operand], others: [RegSet; 4]) -> [RegSet; 4]
     ensures { (sets : List RegSet) → others ≡ spec.padded_classes 4 sets
@@ -123,7 +126,8 @@ fn ties(next: u8, operands: &[Operand]) -> [Option<u8>; 3]
     behind
 }
 
-/// What a row says of its form: the registers that its operands and outputs take, and which outputs are tied.
+/// What a row says of its form: the registers that its operands and outputs
+/// take, and which outputs are tied.
 #[tactic(auto, unfolding(crate::specs::Info::info_of))]
 pub fn info_of(row: &Row) -> FormInfo
     ensures { result ≡ spec.info_of row.now }

@@ -5,6 +5,4 @@ pub use exec::values_of;
 pub use info::info_of;
 
 mod exec;
-mod few_rows;
 mod info;
-pub mod laws;

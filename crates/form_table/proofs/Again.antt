@@ -7,7 +7,7 @@ use Rattle.std.proofs.lemmas.Bool.Decides.{nat_tests}
 use Rattle.std.proofs.lemmas.Option.{get_or_from_slice_get, slice_get_within, same_Some}
 use Rattle.sl_model.specs.declared.register.Reg.{Reg}
 use Rattle.sl_model.specs.declared.instruction.Instr.{Instr}
-use Rattle.sl_isa.specs.Arch.{flags_register}
+use Rattle.sl_isa.specs.Steps.{flags_register}
 use Rattle.form_table.specs.Rows.{row_operands}
 use Rattle.form_table.specs.Reads.{is_picked, kept, picked, placed, all_placed, flags_placed, inputs, results, number_at, instr_of}
 use Rattle.form_table.specs.Printed.{has_register, has_number, one_if, among_outs, among_ins, register_in, number_in, held_in, helds_in}
@@ -80,17 +80,9 @@ HoldFrom places from regs = (k : ℕ) (r : Reg) → slice_get regs k ≡ Some r 
 abbrev pub NumbersFrom : List ℤ → ℕ → List ℤ → Type 0
 NumbersFrom imms from numbers = (k : ℕ) (n : ℤ) → slice_get numbers k ≡ Some n → slice_index_or imms (from + k) (pos 0) ≡ n
 
-some_register : (o : Option Reg) → is_some o ≡ true → (r : Reg) × (o ≡ Some r)
-some_register None e = absurd cc
-some_register (Some r) e = (r, refl)
-
 no_register : (o : Option Reg) → is_some o ≡ false → o ≡ None
 no_register None e = refl
 no_register (Some r) e = absurd cc
-
-pub some_number : (o : Option ℤ) → is_some o ≡ true → (n : ℤ) × (o ≡ Some n)
-some_number None e = absurd cc
-some_number (Some n) e = (n, refl)
 
 no_number : (o : Option ℤ) → is_some o ≡ false → o ≡ None
 no_number None e = refl

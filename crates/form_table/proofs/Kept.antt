@@ -2,7 +2,7 @@
 use Rattle.std.proofs.Common.{◌≡◌, ◌∙◌, sym, ap, subst, ℕ, zero, suc, ◌==◌, Bool, true, false, cond, List, [], ◌∷◌, refl}
 use Rattle.std.specs.Prelude.{Option, Some, None, codes, slice_get}
 use Rattle.std.specs.Str.{bytes_eq}
-use Rattle.std.proofs.lemmas.Bool.{eqb-true}
+use Rattle.std.proofs.lemmas.Bool.{eqb-true, false≢true}
 use Rattle.std.proofs.lemmas.Slice.Eq.{bytes_eq-Decides}
 use Rattle.form_table.specs.Rows.{name_text, row_operands, slots_of}
 use Rattle.form_table.specs.Spells.{empty}
@@ -23,9 +23,9 @@ use Rattle.form_table.specs.declared.rows.Alias.TheVariants as alias
 use Rattle.form_table.specs.declared.rows.Row.{Row}
 use Rattle.form_table.specs.declared.spells.Held.{Held}
 use Rattle.form_table.specs.declared.reader.Fit.{Fit}
-use Rattle.form_table.proofs.Unique.{both_true, no_truth}
 use Rattle.form_table.proofs.Refill.{IsFront, front_none}
 use Rattle.form_table.proofs.Filled.{Fills, Filled, set_register_is}
+use Rattle.sl_laws.proofs.Tests.{else_parts, then_parts}
 
 -- letters and names by what tells them apart
 letter_of : ℕ → Letter
@@ -88,14 +88,14 @@ same_slot_is (slot.Register l) (slot.Register other) e = ap slot.Register (same_
 same_slot_is slot.Number slot.Number e = refl
 same_slot_is slot.Index slot.Index e = refl
 same_slot_is slot.Condition slot.Condition e = refl
-same_slot_is _ _ e = absurd (no_truth e)
+same_slot_is _ _ e = absurd (false≢true e)
 
 same_slots_is : (xs bs : List Slot) → same_slots xs bs ≡ true → xs ≡ bs
 same_slots_is [] [] e = refl
-same_slots_is [] (b ∷ bs) e = absurd (no_truth e)
-same_slots_is (a ∷ xs) [] e = absurd (no_truth e)
+same_slots_is [] (b ∷ bs) e = absurd (false≢true e)
+same_slots_is (a ∷ xs) [] e = absurd (false≢true e)
 same_slots_is (a ∷ xs) (b ∷ bs) e =
-    let parts = both_true (same_slot a b) (same_slots xs bs) e in
+    let parts = then_parts (same_slot a b) (same_slots xs bs) e in
     ap (λ s. s ∷ xs) (same_slot_is a b parts.0) ∙ ap (λ slots. b ∷ slots) (same_slots_is xs bs parts.1)
 
 -- operands that are spelled alike hold the same
@@ -106,11 +106,11 @@ same_fills a b held e f = record {
 
 same_filled : (xs bs : List Operand) (helds : List Held) → same_spellings xs bs ≡ true → Filled xs helds → Filled bs helds
 same_filled [] [] helds e f = f
-same_filled [] (b ∷ bs) helds e f = absurd (no_truth e)
-same_filled (a ∷ xs) [] helds e f = absurd (no_truth e)
+same_filled [] (b ∷ bs) helds e f = absurd (false≢true e)
+same_filled (a ∷ xs) [] helds e f = absurd (false≢true e)
 same_filled (a ∷ xs) (b ∷ bs) [] e f = f
 same_filled (a ∷ xs) (b ∷ bs) (held ∷ helds) e f =
-    let parts = both_true (same_spelling a.shape b.shape) (same_spellings xs bs) e in
+    let parts = then_parts (same_spelling a.shape b.shape) (same_spellings xs bs) e in
     (same_fills a.shape b.shape held parts.0 f.0, same_filled xs bs helds parts.1 f.1)
 
 twice_filled : (row : Row) (helds : List Held) → Filled (row_operands row) helds → Filled (twice_operands row) (twice_first helds)
@@ -129,20 +129,16 @@ without_fills a b held e same f =
     let is : empty ≡ left = ap (λ o. let h : Held = record { register = o; number = None } in h) (sym none) in
     same_fills shape.Nothing b left same (record { front = front_none empty left is })
 
-not_this : (a b : Bool) → cond a false b ≡ true → (a ≡ false) × (b ≡ true)
-not_this true b e = absurd cc
-not_this false b e = (refl, e)
-
 without_filled : (place : ℕ) (xs bs : List Operand) (helds : List Held) → same_without place xs bs ≡ true → Filled xs helds → Filled bs (without_number helds place)
-without_filled place [] bs helds e f = absurd (no_truth e)
-without_filled place (a ∷ xs) [] helds e f = absurd (no_truth e)
+without_filled place [] bs helds e f = absurd (false≢true e)
+without_filled place (a ∷ xs) [] helds e f = absurd (false≢true e)
 without_filled place (a ∷ xs) (b ∷ bs) [] e f = absurd f
 without_filled zero (a ∷ xs) (b ∷ bs) (held ∷ helds) e f =
-    let one = not_this (has_register a.shape) (cond (same_spelling shape.Nothing b.shape) (same_spellings xs bs) false) e in
-    let two = both_true (same_spelling shape.Nothing b.shape) (same_spellings xs bs) one.1 in
+    let one = else_parts (has_register a.shape) (cond (same_spelling shape.Nothing b.shape) (same_spellings xs bs) false) e in
+    let two = then_parts (same_spelling shape.Nothing b.shape) (same_spellings xs bs) one.1 in
     (without_fills a.shape b.shape held one.0 two.0 f.0, same_filled xs bs helds two.1 f.1)
 without_filled (suc place) (a ∷ xs) (b ∷ bs) (held ∷ helds) e f =
-    let parts = both_true (same_spelling a.shape b.shape) (same_without place xs bs) e in
+    let parts = then_parts (same_spelling a.shape b.shape) (same_without place xs bs) e in
     (same_fills a.shape b.shape held parts.0 f.0, without_filled place xs bs helds parts.1 f.1)
 
 -- A form of the table that keeps what its operands hold.
@@ -174,7 +170,7 @@ settled_as : (table : List Row) (fit : Fit) (row : Row) (form : ℕ) → has_kep
 unfolding settled
 settled_as table fit row form e f =
     let k = kept_is row (alias.As form) (slice_get table form) e in
-    let parts = both_true (is_own k.target.alias) (same_spellings (row_operands row) (row_operands k.target)) k.kept in
+    let parts = then_parts (is_own k.target.alias) (same_spellings (row_operands row) (row_operands k.target)) k.kept in
     record { row = k.target; at = k.at; filled = same_filled (row_operands row) (row_operands k.target) fit.helds parts.1 f; stays = own_stays k.target.alias _ parts.0 }
 
 settled_repeat : (table : List Row) (fit : Fit) (row : Row) (form : ℕ) → has_kept table row (alias.Repeat form) ≡ true → Filled (row_operands row) fit.helds →
@@ -182,7 +178,7 @@ settled_repeat : (table : List Row) (fit : Fit) (row : Row) (form : ℕ) → has
 unfolding settled
 settled_repeat table fit row form e f =
     let k = kept_is row (alias.Repeat form) (slice_get table form) e in
-    let parts = both_true (is_own k.target.alias) (same_spellings (twice_operands row) (row_operands k.target)) k.kept in
+    let parts = then_parts (is_own k.target.alias) (same_spellings (twice_operands row) (row_operands k.target)) k.kept in
     record {
       row = k.target;
       at = k.at;
@@ -195,7 +191,7 @@ zero_left : (table : List Row) (fit : Fit) (row : Row) (form place : ℕ) → ha
     IsSettled table (record { form = form; helds = without_number fit.helds place })
 zero_left table fit row form place e f =
     let k = kept_is row (alias.ZeroAs form place) (slice_get table form) e in
-    let parts = both_true (is_own k.target.alias) (same_without place (row_operands row) (row_operands k.target)) k.kept in
+    let parts = then_parts (is_own k.target.alias) (same_without place (row_operands row) (row_operands k.target)) k.kept in
     record {
       row = k.target;
       at = k.at;
@@ -224,11 +220,12 @@ settled_by table fit row (alias.As form) at is e f = settled_as table fit row fo
 settled_by table fit row (alias.Repeat form) at is e f = settled_repeat table fit row form e f
 settled_by table fit row (alias.ZeroAs form place) at is e f = settled_zero table fit row form place at is e f
 
-all_kept_at : (table rows : List Row) (k : ℕ) (row : Row) → all_kept table rows ≡ true → slice_get rows k ≡ Some row → has_kept table row row.alias ≡ true
+-- each row of a table names one that keeps its spelling
+pub all_kept_at : (table rows : List Row) (k : ℕ) (row : Row) → all_kept table rows ≡ true → slice_get rows k ≡ Some row → has_kept table row row.alias ≡ true
 all_kept_at table [] k row e at = absurd cc
 all_kept_at table (r ∷ rows) zero row e at =
-    subst (λ (v : Row). has_kept table v v.alias ≡ true) (let same : r ≡ row = cc in same) (both_true (has_kept table r r.alias) (all_kept table rows) e).0
-all_kept_at table (r ∷ rows) (suc k) row e at = all_kept_at table rows k row (both_true (has_kept table r r.alias) (all_kept table rows) e).1 at
+    subst (λ (v : Row). has_kept table v v.alias ≡ true) (let same : r ≡ row = cc in same) (then_parts (has_kept table r r.alias) (all_kept table rows) e).0
+all_kept_at table (r ∷ rows) (suc k) row e at = all_kept_at table rows k row (then_parts (has_kept table r r.alias) (all_kept table rows) e).1 at
 
 -- What a row's alias leaves is kept by a row of the table.
 pub settled_is : (table : List Row) (fit : Fit) (row : Row) → all_kept table table ≡ true → slice_get table fit.form ≡ Some row → Filled (row_operands row) fit.helds →

@@ -1,4 +1,4 @@
-pub mod Digits
+pub mod ForCallers
 pub mod Unique
 pub mod Again
 pub mod Decimals

@@ -8,22 +8,20 @@ use Rattle.sl_model.specs.declared.instruction.Instr.{Instr}
 use Rattle.sl_model.specs.RegSets.{set_has}
 use Rattle.sl_model.specs.Source.{operands, outputs}
 use Rattle.sl_model.specs.Token.{Lexeme}
-use Rattle.sl_isa.specs.Arch.{flags_register}
+use Rattle.sl_isa.specs.Steps.{flags_register}
 use Rattle.sl_isa.specs.declared.reasons.FormReason.TheVariants.{ImmediateRange, RegisterClass, SameRegister}
 use Rattle.form_table.specs.Items.{items_from}
 use Rattle.form_table.specs.Rows.{row_operands}
-use Rattle.form_table.specs.Reads.{fit_from, is_picked, kept, picked, placed, all_placed, flags_placed, inputs, results}
-use Rattle.form_table.specs.Reads.{register_suits, registers_suit, numbers_suit, sum_suits, number_at, repeats, shares_base}
-use Rattle.form_table.specs.Reads.{instr_of, judged, judged_at, settled_at, with_fit, knows, reads}
+use Rattle.form_table.specs.Reads.{fit_from, is_picked, kept, picked, placed, all_placed, flags_placed, inputs, results, register_suits, registers_suit, numbers_suit, sum_suits, number_at, repeats, shares_base, instr_of, judged, judged_at, settled_at, with_fit, knows, reads}
 use Rattle.form_table.specs.declared.rows.Operand.{Operand}
 use Rattle.form_table.specs.declared.rows.Row.{Row}
 use Rattle.form_table.specs.declared.spells.Held.{Held}
 use Rattle.form_table.specs.declared.reader.Fit.{Fit}
 use Rattle.form_table.specs.declared.reader.Pick.{Pick}
 use Rattle.form_table.specs.declared.reader.Pick.TheVariants as pick
-use Rattle.form_table.proofs.PrintedRuns.{and_both}
-use Rattle.form_table.proofs.Unique.{both_true}
 use Rattle.form_table.proofs.ReadAgain.{not_refused, passed, same_Ok, known_fits}
+use Rattle.sl_laws.proofs.Tests.{then_parts}
+use Rattle.std.proofs.lemmas.Bool.{and_parts}
 
 abbrev is_machine_s : Reg → Bool
 is_machine_s r = not r.symbolic
@@ -43,7 +41,7 @@ more_machine r regs e all = ap (λ b. b && list_all is_machine_s regs) e ∙ all
 
 set_machine : (set : RegSet) (r : Reg) → set_has set r ≡ true → is_machine_s r ≡ true
 unfolding set_has
-set_machine set r e = (and_both (not r.symbolic) _ e).0
+set_machine set r e = (and_parts (not r.symbolic) _ e).0
 
 kept_machine : (picks : Bool) (o : Option Reg) (operand : Operand) (regs : List Reg) → register_suits operand o ≡ true → AreMachine regs →
     AreMachine (kept picks o regs)
@@ -57,7 +55,7 @@ unfolding picked registers_suit
 picked_machine which [] helds e = refl
 picked_machine which (operand ∷ operands) [] e = refl
 picked_machine which (operand ∷ operands) (held ∷ helds) e =
-    let parts = both_true (register_suits operand held.register) (registers_suit operands helds) e in
+    let parts = then_parts (register_suits operand held.register) (registers_suit operands helds) e in
     kept_machine (is_picked which operand.role) held.register operand (picked which operands helds) parts.0 (picked_machine which operands helds parts.1)
 
 -- ---- the places of an instruction
@@ -68,7 +66,7 @@ unfolding placed
 placed_machine [] r e all = refl
 placed_machine (None ∷ places) r e all = more_machine r (standing places) e all
 placed_machine (Some q ∷ places) r e all =
-    let parts = and_both (is_machine_s q) (list_all is_machine_s (standing places)) all in
+    let parts = and_parts (is_machine_s q) (list_all is_machine_s (standing places)) all in
     more_machine q (standing (placed places r)) parts.0 (placed_machine places r e parts.1)
 
 all_placed_machine : (places : List (Option Reg)) (regs : List Reg) → AreMachine regs → AreMachine (standing places) →
@@ -76,7 +74,7 @@ all_placed_machine : (places : List (Option Reg)) (regs : List Reg) → AreMachi
 unfolding all_placed
 all_placed_machine places [] e all = all
 all_placed_machine places (r ∷ regs) e all =
-    let parts = and_both (is_machine_s r) (list_all is_machine_s regs) e in
+    let parts = and_parts (is_machine_s r) (list_all is_machine_s regs) e in
     all_placed_machine (placed places r) regs parts.1 (placed_machine places r parts.0 all)
 
 flags_machine : (places : List (Option Reg)) (wanted : Bool) → AreMachine (standing places) → AreMachine (standing (flags_placed places wanted))

@@ -1,49 +1,25 @@
 -- A register that was read, and a condition, is named so that it is read as itself.
 use Rattle.std.proofs.Common.{◌≡◌, ◌∙◌, sym, ap, subst, ℕ, suc, ◌+◌, ◌==◌, ◌<◌, ◌≤◌, Bool, true, false, cond, List, [], ◌∷◌, length, arith, refl, ◌⊎◌, inl, inr}
-use Rattle.std.specs.Prelude.{pos, nat_lt, Option, Some, None, option_and_then, codes, ◌&&◌}
+use Rattle.std.specs.Prelude.{pos, nat_lt, Option, Some, None, option_and_then, codes}
 use Rattle.std.specs.Char.{to_ascii_lowercase}
 use Rattle.std.specs.Str.{str_eq_ignore_ascii_case}
 use Rattle.std.specs.Fmt.{digits}
 use Rattle.std.proofs.Math.Logic.{⊎_elim}
-use Rattle.std.proofs.lemmas.Bool.{agree_below_at, and_parts, eqb-true, ltb-true}
+use Rattle.std.proofs.lemmas.Bool.{agree_below_at, eqb-true, ltb-true}
 use Rattle.std.proofs.lemmas.Option.{option_and_then_some, cond_some, same_Some}
 use Rattle.sl_model.specs.declared.register.Bank.{Bank}
-use Rattle.sl_model.specs.declared.register.Bank.TheVariants.{General, Vector, Flags, Stack}
+use Rattle.sl_model.specs.declared.register.Bank.TheVariants.{General, Vector, Stack}
 use Rattle.sl_model.specs.declared.register.Reg.{Reg}
-use Rattle.sl_model.specs.Register.{same_reg, same_bool, bank_number}
-use Rattle.form_table.specs.Numerals.{decimal_value, digits_number}
+use Rattle.sl_model.specs.Register.{same_reg}
+use Rattle.sl_model.specs.Digits.{decimal_number, digits_number}
+use Rattle.form_table.specs.Numerals.{decimal_value}
 use Rattle.form_table.specs.Spells.{machine_reg, below_count, numbered, unless_r13, register_of, condition_names, name_place, condition_of}
 use Rattle.form_table.specs.Printed.{register_name, condition_text}
 use Rattle.form_table.specs.declared.rows.Letter.{Letter}
 use Rattle.form_table.specs.declared.rows.Letter.TheVariants as letter
 use Rattle.form_table.proofs.SlotItems.{ShowsRegister, ShowsCondition}
 use Rattle.form_table.proofs.Unique.{test_then}
-
--- a bank by its number
-abbrev bank_of : ℕ → Bank
-bank_of n = cond (n == 0) General (cond (n == 1) Vector (cond (n == 2) Flags Stack))
-
-bank_again : (b : Bank) → bank_of (bank_number b) ≡ b
-bank_again General = refl
-bank_again Vector = refl
-bank_again Flags = refl
-bank_again Stack = refl
-
-same_truth : (a b : Bool) → same_bool a b ≡ true → a ≡ b
-same_truth true true e = refl
-same_truth false false e = refl
-same_truth true false e = absurd cc
-same_truth false true e = absurd cc
-
-same_is : (a b : Reg) → same_reg a b ≡ true → a ≡ b
-unfolding same_reg
-same_is a b e =
-    let parts = and_parts (bank_number a.bank == bank_number b.bank) (same_bool a.symbolic b.symbolic && (a.number == b.number)) e in
-    let rest = and_parts (same_bool a.symbolic b.symbolic) (a.number == b.number) parts.1 in
-    let bank : a.bank ≡ b.bank = sym (bank_again a.bank) ∙ (ap bank_of (eqb-true _ _ parts.0) ∙ bank_again b.bank) in
-    let symbolic = same_truth a.symbolic b.symbolic rest.0 in
-    let number = eqb-true _ _ rest.1 in
-    λ i. record { bank = bank i; symbolic = symbolic i; number = number i }
+use Rattle.sl_laws.proofs.Registers.{same_reg-true}
 
 -- Is this register found?
 abbrev finds : Option Reg → Reg → Bool
@@ -52,7 +28,7 @@ finds (Some q) r = same_reg q r
 
 finds_is : (o : Option Reg) (r : Reg) → finds o r ≡ true → o ≡ Some r
 finds_is None r e = absurd cc
-finds_is (Some q) r e = ap Some (same_is q r e)
+finds_is (Some q) r e = ap Some (same_reg-true q r e)
 
 -- Is a register named so that it is read as itself?
 unfoldable is_named : Letter → Reg → Bool
@@ -65,43 +41,39 @@ named_is : (letter : Letter) (r : Reg) → r.number < 32 → is_named letter r �
 unfolding is_named
 named_is letter r small e = record { register = r; is = refl; named = finds_is (register_of letter (register_name letter r)) r e; small = small }
 
--- all registers that are spelled by a number
-named_below : (letter : Letter) (bank : Bank) (count n : ℕ) → n < count → count ≤ 32 → is_named letter (machine_reg bank n) ≡ true → ShowsRegister letter (Some (machine_reg bank n))
-named_below letter bank count n below few e = named_is letter (machine_reg bank n) (omega arith) e
-
 x_named : (n : ℕ) → n < 31 → is_named letter.X (machine_reg General n) ≡ true
-unfolding is_named register_of register_name numbered decimal_value digits_number digits same_reg always
+unfolding is_named register_of register_name numbered decimal_value decimal_number digits_number digits same_reg always
 x_named n h = agree_below_at (λ n. is_named letter.X (machine_reg General n)) always 31 n refl h
 
 w_named : (n : ℕ) → n < 31 → is_named letter.W (machine_reg General n) ≡ true
-unfolding is_named register_of register_name numbered decimal_value digits_number digits same_reg always
+unfolding is_named register_of register_name numbered decimal_value decimal_number digits_number digits same_reg always
 w_named n h = agree_below_at (λ n. is_named letter.W (machine_reg General n)) always 31 n refl h
 
 v_named : (n : ℕ) → n < 32 → is_named letter.V (machine_reg Vector n) ≡ true
-unfolding is_named register_of register_name numbered decimal_value digits_number digits same_reg always
+unfolding is_named register_of register_name numbered decimal_value decimal_number digits_number digits same_reg always
 v_named n h = agree_below_at (λ n. is_named letter.V (machine_reg Vector n)) always 32 n refl h
 
 q_named : (n : ℕ) → n < 32 → is_named letter.Q (machine_reg Vector n) ≡ true
-unfolding is_named register_of register_name numbered decimal_value digits_number digits same_reg always
+unfolding is_named register_of register_name numbered decimal_value decimal_number digits_number digits same_reg always
 q_named n h = agree_below_at (λ n. is_named letter.Q (machine_reg Vector n)) always 32 n refl h
 
 d_named : (n : ℕ) → n < 32 → is_named letter.D (machine_reg Vector n) ≡ true
-unfolding is_named register_of register_name numbered decimal_value digits_number digits same_reg always
+unfolding is_named register_of register_name numbered decimal_value decimal_number digits_number digits same_reg always
 d_named n h = agree_below_at (λ n. is_named letter.D (machine_reg Vector n)) always 32 n refl h
 
 s_named : (n : ℕ) → n < 32 → is_named letter.S (machine_reg Vector n) ≡ true
-unfolding is_named register_of register_name numbered decimal_value digits_number digits same_reg always
+unfolding is_named register_of register_name numbered decimal_value decimal_number digits_number digits same_reg always
 s_named n h = agree_below_at (λ n. is_named letter.S (machine_reg Vector n)) always 32 n refl h
 
 -- r13 aside
 r_named : (n : ℕ) → n < 15 → cond (n == 13) true (is_named letter.R (machine_reg General n)) ≡ true
-unfolding is_named register_of register_name numbered decimal_value digits_number digits same_reg always
+unfolding is_named register_of register_name numbered decimal_value decimal_number digits_number digits same_reg always
 r_named n h = agree_below_at (λ n. cond (n == 13) true (is_named letter.R (machine_reg General n))) always 15 n refl h
 
 -- those with names of their own
 own_named : (is_named letter.X (machine_reg General 31) ≡ true) × (is_named letter.X (machine_reg Stack 0) ≡ true)
     × (is_named letter.W (machine_reg General 31) ≡ true) × (is_named letter.R (machine_reg General 14) ≡ true) × (is_named letter.R (machine_reg Stack 0) ≡ true)
-unfolding is_named register_of register_name numbered decimal_value digits_number digits same_reg
+unfolding is_named register_of register_name numbered decimal_value decimal_number digits_number digits same_reg
 own_named = (refl, refl, refl, refl, refl)
 
 -- a register that is spelled by a number

@@ -12,17 +12,18 @@ use Rattle.form_table.specs.Reads.{reads}
 use Rattle.form_table.specs.Printed.{register_text, number_text, condition_text, slot_text, operands_text, row_text, printed}
 use Rattle.form_table.specs.Tables.{is_word_text, is_table, all_led, is_readable}
 use Rattle.form_table.specs.declared.rows.Name.{Name}
-use Rattle.form_table.specs.declared.rows.Name.TheVariants as name
 use Rattle.form_table.specs.declared.rows.Slot.{Slot}
 use Rattle.form_table.specs.declared.rows.Slot.TheVariants as slot
 use Rattle.form_table.specs.declared.rows.Row.{Row}
 use Rattle.form_table.specs.declared.spells.Held.{Held}
 use Rattle.form_table.proofs.SlotItems.{IsPrintable}
-use Rattle.form_table.proofs.PrintedRuns.{is_run, both, and_both}
+use Rattle.form_table.proofs.PrintedRuns.{is_run}
 use Rattle.form_table.proofs.PrintedNames.{all_more, decimal_run}
 use Rattle.form_table.proofs.PrintedPieces.{IsSmall, IsIndex, Piece, row_pieces, pieces_text, text_is, Fits, AllFit, row_fits}
-use Rattle.form_table.proofs.PrintedTokens.{mark_cases}
+use Rattle.form_table.proofs.PrintedTokens.{mark_cases, each_name}
 use Rattle.form_table.proofs.ReadAgain.{IsReadAgain, read_again}
+use Rattle.sl_laws.proofs.Tests.{then_parts}
+use Rattle.std.proofs.lemmas.Bool.{and_parts}
 
 -- a byte that ends no line
 abbrev goes_on : ℕ → Bool
@@ -47,7 +48,7 @@ all_pass : (p q : ℕ → Bool) (text : List ℕ) → ((c : ℕ) → p c ≡ tru
     list_all q text ≡ true
 all_pass p q [] pass e = refl
 all_pass p q (c ∷ text) pass e =
-    let parts = and_both (p c) (list_all p text) e in
+    let parts = and_parts (p c) (list_all p text) e in
     ap (λ b. b && list_all q text) (pass c parts.0) ∙ all_pass p q text pass parts.1
 
 -- ---- words and numbers
@@ -55,13 +56,13 @@ all_pass p q (c ∷ text) pass e =
 name_goes_on : (w : List ℕ) → is_word_text w ≡ true → list_all goes_on w ≡ true
 name_goes_on [] e = refl
 name_goes_on (c ∷ w) e =
-    let parts = both (begins_word c) (list_all is_word_byte w) e in
+    let parts = then_parts (begins_word c) (list_all is_word_byte w) e in
     ap (λ b. b && list_all goes_on w) (first_goes_on c parts.0) ∙ all_pass is_word_byte goes_on w word_goes_on parts.1
 
 run_goes_on : (w : List ℕ) → is_run w ≡ true → list_all goes_on w ≡ true
 run_goes_on [] e = refl
 run_goes_on (c ∷ w) e =
-    let parts = both (is_ascii_digit c) (list_all is_ascii_alphanumeric w) e in
+    let parts = then_parts (is_ascii_digit c) (list_all is_ascii_alphanumeric w) e in
     ap (λ b. b && list_all goes_on w) (digit_goes_on c parts.0) ∙ all_pass is_ascii_alphanumeric goes_on w letter_goes_on parts.1
 
 digits_go_on : (n : ℕ) → n < 2 ^ 32 → list_all goes_on (decimal n) ≡ true
@@ -80,23 +81,7 @@ index_goes_on (Some (negsuc n)) index = absurd index
 -- ---- what a slot prints
 
 fixed_goes_on : (n : Name) → list_all goes_on (name_text n) ≡ true
-fixed_goes_on n = elim n as (λ n. list_all goes_on (name_text n) ≡ true) [
-  | name.Lsl ↦ refl
-  | name.Lsr ↦ refl
-  | name.Asr ↦ refl
-  | name.Ror ↦ refl
-  | name.Lanes8b ↦ refl
-  | name.Lanes16b ↦ refl
-  | name.Lanes4h ↦ refl
-  | name.Lanes8h ↦ refl
-  | name.Lanes2s ↦ refl
-  | name.Lanes4s ↦ refl
-  | name.Lanes2d ↦ refl
-  | name.LaneB ↦ refl
-  | name.LaneH ↦ refl
-  | name.LaneS ↦ refl
-  | name.LaneD ↦ refl
-]
+fixed_goes_on n = each_name (λ n. list_all goes_on (name_text n) ≡ true) refl refl refl refl refl refl refl refl refl refl refl refl refl refl refl n
 
 slot_goes_on : (held : Held) (s : Slot) → Fits held s → list_all goes_on (slot_text held s) ≡ true
 unfolding slot_text
@@ -132,6 +117,6 @@ row_goes_on row helds printable =
 pub one_line : (table : List Row) → is_readable table ≡ true → (words : List Lexeme) (i : Instr) → reads table words ≡ Ok i →
     list_all (λ c. not (c == 10)) (printed table i) ≡ true
 one_line table tests words i e =
-    let parts = both (is_table table) (all_led table) tests in
+    let parts = then_parts (is_table table) (all_led table) tests in
     let again : IsReadAgain table i = read_again table words i parts.0 e in
     ap (list_all goes_on) again.text ∙ row_goes_on again.row again.helds again.printable

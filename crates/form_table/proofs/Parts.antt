@@ -1,8 +1,6 @@
 -- What is looked for in a table is looked for in its parts, one behind the other.
-use Rattle.std.proofs.Common.{◌≡◌, ◌∙◌, sym, ap, ℕ, zero, suc, ◌+◌, ◌-◌, ◌<◌, ◌≤◌, Bool, ◌||◌, List, [], ◌∷◌, ◌++◌, length, arith, refl}
+use Rattle.std.proofs.Common.{◌≡◌, ◌∙◌, sym, ap, ℕ, zero, suc, ◌+◌, ◌<◌, List, [], ◌∷◌, ◌++◌, length, arith, refl}
 use Rattle.std.specs.Prelude.{Option, Some, None, slice_get}
-use Rattle.std.specs.List.{list_any}
-use Rattle.std.proofs.lemmas.List.Folds.{list_any-append}
 use Rattle.form_table.specs.Items.{Item}
 use Rattle.form_table.specs.Reads.{fit_row, fit_or, fit_from}
 use Rattle.form_table.specs.declared.rows.Row.{Row}
@@ -65,19 +63,6 @@ fit_in_third first second third text items answer none nor e =
     found_later (fit_from 0 first text items) (fit_from (length first) (second ++ third) text items) answer none
     (found_later (fit_from (length first) second text items) (fit_from (length first + length second) third text items) answer nor e ∙ sym (fit_behind (length first) second third text items))
     ∙ sym (fit_begins first (second ++ third) text items)
-
-pub any_of_parts : {A : Type 0} (p : A → Bool) (first second third : List A) →
-    list_any p (first ++ (second ++ third)) ≡ (list_any p first || (list_any p second || list_any p third))
-any_of_parts p first second third = list_any-append p first (second ++ third) ∙ ap (λ b. list_any p first || b) (list_any-append p second third)
-
--- the element at a place of lists one behind the other
-pub get_behind : {A : Type 0} (front back : List A) (k : ℕ) → length front ≤ k → slice_get (front ++ back) k ≡ slice_get back (k - length front)
-get_behind [] back k h = let same : k ≡ k - 0 = omega arith in ap (slice_get back) same
-get_behind (x ∷ front) back zero h = absurd (omega arith)
-get_behind (x ∷ front) back (suc k) h =
-    let less : length front ≤ k = omega arith in
-    let same : k - length front ≡ suc k - suc (length front) = omega arith in
-    get_behind front back k less ∙ ap (slice_get back) same
 
 pub get_before : {A : Type 0} (front back : List A) (k : ℕ) → k < length front → slice_get (front ++ back) k ≡ slice_get front k
 get_before [] back k h = absurd (omega arith)

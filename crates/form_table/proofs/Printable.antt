@@ -17,11 +17,11 @@ use Rattle.form_table.specs.declared.rows.Operand.{Operand}
 use Rattle.form_table.specs.declared.rows.Row.{Row}
 use Rattle.form_table.specs.declared.spells.Held.{Held}
 use Rattle.form_table.specs.declared.reader.Pick.TheVariants as pick
-use Rattle.form_table.proofs.Unique.{both_true}
-use Rattle.form_table.proofs.Again.{Shaped, with_number, numbers_of, some_number, HasPlaces}
+use Rattle.form_table.proofs.Again.{Shaped, with_number, numbers_of, HasPlaces}
 use Rattle.form_table.proofs.SlotItems.{Shows, ShowsSlots, ShowsOperands, ShowsNumber, ShowsIndex, IsPrintable}
 use Rattle.form_table.proofs.Refill.{Holds, HoldsSlots}
 use Rattle.form_table.proofs.Filled.{Filled, filled_shaped}
+use Rattle.sl_laws.proofs.Tests.{some_value, then_parts}
 
 -- numbers between two that spellings have
 between : (least most n : ℤ) (limit : ℕ) → int_le least n ≡ true → int_le n most ≡ true → unsigned_abs least < limit → unsigned_abs most < limit → unsigned_abs n < limit
@@ -75,12 +75,12 @@ has_index_is (shape.Before letter) = refl
 
 shows_number : (held : Held) → Small held → is_some held.number ≡ true → ShowsNumber held.number
 shows_number held small there =
-    let n = some_number held.number there in
+    let n = some_value held.number there in
     record { number = n.0; is = n.1; small = small n.0 n.1 }
 
 shows_index : (held : Held) → Small held → NotNegative held → is_some held.number ≡ true → ShowsIndex held.number
 shows_index held small positive there =
-    let n = some_number held.number there in
+    let n = some_value held.number there in
     let k = as_natural n.0 (positive n.0 n.1) in
     let is : held.number ≡ Some (pos k.0) = n.1 ∙ ap Some k.1 in
     record { number = k.0; is = is; small = small (pos k.0) is }
@@ -135,8 +135,8 @@ when_true false b e t = absurd cc
 spelled_is : (operand : Operand) → is_spelled operand ≡ true → IsSpelled operand
 spelled_is operand e =
     let index : Bool = cond (is_indexed operand.shape) (int_le (pos 0) operand.range.least) true in
-    let one = both_true (nat_lt (unsigned_abs operand.range.least) (2 ^ 32)) (cond (nat_lt (unsigned_abs operand.range.most) (2 ^ 32)) index false) e in
-    let two = both_true (nat_lt (unsigned_abs operand.range.most) (2 ^ 32)) index one.1 in
+    let one = then_parts (nat_lt (unsigned_abs operand.range.least) (2 ^ 32)) (cond (nat_lt (unsigned_abs operand.range.most) (2 ^ 32)) index false) e in
+    let two = then_parts (nat_lt (unsigned_abs operand.range.most) (2 ^ 32)) index one.1 in
     record {
       least = ltb-true _ _ one.0;
       most = ltb-true _ _ two.0;
@@ -150,8 +150,8 @@ suits_range operand o n suits e = subst (λ p. number_suits operand p ≡ true) 
 in_range_is : (range : Range) (n : ℤ) → in_range range n ≡ true → (int_le range.least n ≡ true) × (int_le n range.most ≡ true)
 unfolding in_range
 in_range_is range n e =
-    let one = both_true (int_le range.least n) (cond (int_le n range.most) (is_multiple range.step (unsigned_abs n)) false) e in
-    let two = both_true (int_le n range.most) (is_multiple range.step (unsigned_abs n)) one.1 in
+    let one = then_parts (int_le range.least n) (cond (int_le n range.most) (is_multiple range.step (unsigned_abs n)) false) e in
+    let two = then_parts (int_le n range.most) (is_multiple range.step (unsigned_abs n)) one.1 in
     (one.0, two.0)
 
 small_number : (operand : Operand) (held : Held) → is_spelled operand ≡ true → number_suits operand held.number ≡ true → Small held
@@ -173,8 +173,8 @@ shows_operands lead [] [] l spelled suits f = tt
 shows_operands lead [] (held ∷ helds) l spelled suits f = absurd f
 shows_operands lead (operand ∷ operands) [] l spelled suits f = absurd f
 shows_operands lead (operand ∷ operands) (held ∷ helds) l spelled suits f =
-    let one = both_true (is_spelled operand) (all_spelled operands) spelled in
-    let two = both_true (number_suits operand held.number) (numbers_suit operands helds) suits in
+    let one = then_parts (is_spelled operand) (all_spelled operands) spelled in
+    let two = then_parts (number_suits operand held.number) (numbers_suit operands helds) suits in
     let first : ShowsSlots held (slots_of slot.Gap operand.shape) =
     shows_slots held (slots_of slot.Gap operand.shape) (small_number operand held one.0 two.0)
     (λ e. index_number operand held one.0 two.0 (sym (has_index_is operand.shape) ∙ e)) f.0.front.holds in
@@ -229,10 +229,10 @@ row_is row e =
     let numbers : Bool = nat_le (count_numbers (row_operands row)) 3 in
     let outs : Bool = cond (nat_le (count_outs (row_operands row)) 3) numbers false in
     let ins : Bool = cond (nat_le (count_ins (row_operands row)) 4) outs false in
-    let one = both_true (is_word_text (mnemonic_text row)) (cond (all_spelled (row_operands row)) ins false) e in
-    let two = both_true (all_spelled (row_operands row)) ins one.1 in
-    let three = both_true (nat_le (count_ins (row_operands row)) 4) outs two.1 in
-    let four = both_true (nat_le (count_outs (row_operands row)) 3) numbers three.1 in
+    let one = then_parts (is_word_text (mnemonic_text row)) (cond (all_spelled (row_operands row)) ins false) e in
+    let two = then_parts (all_spelled (row_operands row)) ins one.1 in
+    let three = then_parts (nat_le (count_ins (row_operands row)) 4) outs two.1 in
+    let four = then_parts (nat_le (count_outs (row_operands row)) 3) numbers three.1 in
     record {
       mnemonic = one.0;
       spelled = two.0;

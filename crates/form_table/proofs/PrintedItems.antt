@@ -7,21 +7,22 @@ use Rattle.std.proofs.Math.IntN.{+ℤ_idl}
 use Rattle.std.proofs.lemmas.Bool.Decides.{nat_tests}
 use Rattle.sl_model.specs.declared.text.TokenKind.TheVariants.{Word, Number, Mark}
 use Rattle.sl_model.specs.Token.{Lexeme}
-use Rattle.form_table.specs.Numerals.{some_digits, digits_number, decimal_value, number_value}
+use Rattle.sl_model.specs.Digits.{some_digits, digits_number, decimal_number, spelled_number}
+use Rattle.form_table.specs.Numerals.{capped, decimal_value, number_value}
 use Rattle.form_table.specs.Items.{Item, blank, mark, word, numeral, Found, is_free, is_apart, plain_number, signed_number, found_number, number_of, item_or, token_item, first_item, behind_blank, items_from}
 use Rattle.form_table.specs.Rows.{name_text}
 use Rattle.form_table.specs.Printed.{register_text, number_text, condition_text, slot_text}
 use Rattle.form_table.specs.declared.rows.Name.{Name}
-use Rattle.form_table.specs.declared.rows.Name.TheVariants as name
 use Rattle.form_table.specs.declared.rows.Slot.{Slot}
 use Rattle.form_table.specs.declared.rows.Slot.TheVariants as slot
 use Rattle.form_table.specs.declared.spells.Held.{Held}
 use Rattle.form_table.proofs.Decimals.{decimal_is_read}
 use Rattle.form_table.proofs.SlotItems.{slot_item}
-use Rattle.form_table.proofs.PrintedRuns.{both, token}
+use Rattle.form_table.proofs.PrintedRuns.{token}
 use Rattle.form_table.proofs.PrintedPieces.{IsSmall, IsIndex, Piece, pieces_items, Before, may_follow, behind, may_end, flows, is_printed_mark, Fits, AllFit, Good}
 use Rattle.form_table.proofs.PrintedPieces as before
-use Rattle.form_table.proofs.PrintedTokens.{name_kind, number_tokens, slot_tokens, pieces_tokens, mark_cases}
+use Rattle.form_table.proofs.PrintedTokens.{name_kind, number_tokens, slot_tokens, pieces_tokens, mark_cases, each_name}
+use Rattle.sl_laws.proofs.Tests.{then_parts}
 
 -- ---- numbers
 
@@ -37,16 +38,16 @@ no_hex true false true e = absurd cc
 no_hex true false false e = refl
 no_hex false y z e = refl
 
-no_digits : None ≡ decimal_value []
-unfolding decimal_value
+no_digits : number_value [] ≡ decimal_value []
+unfolding number_value decimal_value spelled_number decimal_number
 no_digits = refl
 
 plain_value : (text : List ℕ) → is_plain text ≡ true → number_value text ≡ decimal_value text
-unfolding number_value
+unfolding number_value decimal_value spelled_number
 plain_value [] e = no_digits
 plain_value (a ∷ []) e = refl
 plain_value (a ∷ b ∷ text) e =
-    ap (λ h. cond h (some_digits 16 text) (decimal_value (a ∷ b ∷ text))) (no_hex (a == 48) (b == 120) (b == 88) e)
+    ap (λ h. option_and_then (λ n. Some (capped n)) (cond h (some_digits 16 text) (decimal_number (a ∷ b ∷ text)))) (no_hex (a == 48) (b == 120) (b == 88) e)
 
 digit_plain : (d : ℕ) → d < 10 → cond (48 + d == 120) false (not (48 + d == 88)) ≡ true
 digit_plain d h = grind (arith, nat_tests)
@@ -202,43 +203,11 @@ mark_first place tokens code is =
     (mark_cases (λ c. found_number (token Mark (c ∷ []) place ∷ tokens) ≡ None) refl refl refl refl refl code is)
 
 name_none : (n : Name) (place : ℕ) (tokens : List Lexeme) → found_number (name_token n place ∷ tokens) ≡ None
-unfolding found_number signed_number plain_number number_value decimal_value digits_number
-name_none n place tokens = elim n as (λ n. found_number (name_token n place ∷ tokens) ≡ None) [
-  | name.Lsl ↦ refl
-  | name.Lsr ↦ refl
-  | name.Asr ↦ refl
-  | name.Ror ↦ refl
-  | name.Lanes8b ↦ refl
-  | name.Lanes16b ↦ refl
-  | name.Lanes4h ↦ refl
-  | name.Lanes8h ↦ refl
-  | name.Lanes2s ↦ refl
-  | name.Lanes4s ↦ refl
-  | name.Lanes2d ↦ refl
-  | name.LaneB ↦ refl
-  | name.LaneH ↦ refl
-  | name.LaneS ↦ refl
-  | name.LaneD ↦ refl
-]
+unfolding found_number signed_number plain_number number_value spelled_number decimal_number digits_number
+name_none n place tokens = each_name (λ n. found_number (name_token n place ∷ tokens) ≡ None) refl refl refl refl refl refl refl refl refl refl refl refl refl refl refl n
 
 name_item : (n : Name) (place : ℕ) → token_item (name_token n place) ≡ word (name_text n)
-name_item n place = elim n as (λ n. token_item (name_token n place) ≡ word (name_text n)) [
-  | name.Lsl ↦ refl
-  | name.Lsr ↦ refl
-  | name.Asr ↦ refl
-  | name.Ror ↦ refl
-  | name.Lanes8b ↦ refl
-  | name.Lanes16b ↦ refl
-  | name.Lanes4h ↦ refl
-  | name.Lanes8h ↦ refl
-  | name.Lanes2s ↦ refl
-  | name.Lanes4s ↦ refl
-  | name.Lanes2d ↦ refl
-  | name.LaneB ↦ refl
-  | name.LaneH ↦ refl
-  | name.LaneS ↦ refl
-  | name.LaneD ↦ refl
-]
+name_item n place = each_name (λ n. token_item (name_token n place) ≡ word (name_text n)) refl refl refl refl refl refl refl refl refl refl refl refl refl refl refl n
 
 name_first : (n : Name) (place : ℕ) (tokens : List Lexeme) →
     first_item (name_token n place ∷ tokens) ≡ (word (name_text n), 1)
@@ -343,23 +312,7 @@ first_start place held slot.Index = number_start place held.number
 first_start place held slot.Condition = refl
 
 name_bound : (n : Name) (place : ℕ) → is_free (name_token n place) ≡ false
-name_bound n place = elim n as (λ n. is_free (name_token n place) ≡ false) [
-  | name.Lsl ↦ refl
-  | name.Lsr ↦ refl
-  | name.Asr ↦ refl
-  | name.Ror ↦ refl
-  | name.Lanes8b ↦ refl
-  | name.Lanes16b ↦ refl
-  | name.Lanes4h ↦ refl
-  | name.Lanes8h ↦ refl
-  | name.Lanes2s ↦ refl
-  | name.Lanes4s ↦ refl
-  | name.Lanes2d ↦ refl
-  | name.LaneB ↦ refl
-  | name.LaneH ↦ refl
-  | name.LaneS ↦ refl
-  | name.LaneD ↦ refl
-]
+name_bound n place = each_name (λ n. is_free (name_token n place) ≡ false) refl refl refl refl refl refl refl refl refl refl refl refl refl refl refl n
 
 index_bound : (place : ℕ) (o : Option ℤ) → is_free (number_first place o) ≡ false
 index_bound place None = refl
@@ -493,7 +446,7 @@ pieces_given before.name t place [] stands good = refl
 pieces_given before.mark t place [] stands good = refl
 pieces_given before.blank t place [] stands good = let none : false ≡ true = good.flow in absurd cc
 pieces_given b t place (p ∷ ps) stands good =
-    let parts = both (may_follow b (behind p.slot)) (flows (behind p.slot) ps) good.flow in
+    let parts = then_parts (may_follow b (behind p.slot)) (flows (behind p.slot) ps) good.flow in
     slot_step b t place p.held p.slot ps stands parts.0 good.fit.0
     (λ u next s. pieces_given (behind p.slot) u next ps s (record { flow = parts.1; fit = good.fit.1 }))
 

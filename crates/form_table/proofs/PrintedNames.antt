@@ -13,7 +13,9 @@ use Rattle.form_table.specs.Spells.{condition_names}
 use Rattle.form_table.specs.Printed.{is_stack, register_name, condition_text}
 use Rattle.form_table.specs.declared.rows.Letter.{Letter}
 use Rattle.form_table.specs.declared.rows.Letter.TheVariants as letter
-use Rattle.form_table.proofs.PrintedRuns.{is_run, both, and_both}
+use Rattle.form_table.proofs.PrintedRuns.{is_run}
+use Rattle.sl_laws.proofs.Tests.{then_parts}
+use Rattle.std.proofs.lemmas.Bool.{and_parts}
 
 -- ---- digits
 
@@ -21,7 +23,7 @@ pub all_more : {X : Type 0} (p : X → Bool) (w more : List X) → list_all p w 
     list_all p (w ++ more) ≡ true
 all_more p [] more e f = f
 all_more p (c ∷ w) more e f =
-    let parts = and_both (p c) (list_all p w) e in
+    let parts = and_parts (p c) (list_all p w) e in
     ap (λ b. b && list_all p (w ++ more)) parts.0 ∙ all_more p w more parts.1 f
 
 run_digit : (d : ℕ) → d < 10 → is_run ((48 + d) ∷ []) ≡ true
@@ -33,7 +35,7 @@ digit_alphanumeric d h = grind (arith, nat_tests)
 run_more : (ds more : List ℕ) → is_run ds ≡ true → list_all is_ascii_alphanumeric more ≡ true → is_run (ds ++ more) ≡ true
 run_more [] more e f = absurd cc
 run_more (c ∷ ds) more e f =
-    let parts = both (is_ascii_digit c) (list_all is_ascii_alphanumeric ds) e in
+    let parts = then_parts (is_ascii_digit c) (list_all is_ascii_alphanumeric ds) e in
     ap (λ b. cond b (list_all is_ascii_alphanumeric (ds ++ more)) false) parts.0 ∙ all_more is_ascii_alphanumeric ds more parts.1 f
 
 pub decimal_run : (n : ℕ) → n < 2 ^ 64 → is_run (decimal n) ≡ true
@@ -76,8 +78,8 @@ register_named letter.R r h =
 name_at : (names : List (List ℕ)) (n : ℕ) → list_all is_word_text names ≡ true → n < length names →
     is_word_text (slice_index_or names n []) ≡ true
 name_at [] n e h = absurd (omega arith)
-name_at (w ∷ names) zero e h = (and_both (is_word_text w) (list_all is_word_text names) e).0
-name_at (w ∷ names) (suc n) e h = name_at names n (and_both (is_word_text w) (list_all is_word_text names) e).1 (omega arith)
+name_at (w ∷ names) zero e h = (and_parts (is_word_text w) (list_all is_word_text names) e).0
+name_at (w ∷ names) (suc n) e h = name_at names n (and_parts (is_word_text w) (list_all is_word_text names) e).1 (omega arith)
 
 -- Each condition's name is a word.
 pub condition_named : (n : ℕ) → n < 14 → is_word_text (condition_text (Some (pos n))) ≡ true

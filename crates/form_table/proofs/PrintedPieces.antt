@@ -18,8 +18,8 @@ use Rattle.form_table.specs.declared.rows.Operand.{Operand}
 use Rattle.form_table.specs.declared.rows.Row.{Row}
 use Rattle.form_table.specs.declared.spells.Held.{Held}
 use Rattle.form_table.proofs.SlotItems.{slot_item, slot_items, operand_items, ShowsRegister, Shows, ShowsSlots, ShowsOperands, IsPrintable}
-use Rattle.form_table.proofs.PrintedRuns.{and_both}
 use Rattle.form_table.proofs.PrintedNames.{register_named, condition_named}
+use Rattle.std.proofs.lemmas.Bool.{and_parts}
 
 -- ---- slots with what each holds
 
@@ -202,7 +202,7 @@ slots_fit : (held : Held) (slots : List Slot) (ps : List Piece) → ShowsSlots h
     AllFit ps → AllFit (pieces_of held slots ++ ps)
 slots_fit held [] ps shown known fit = fit
 slots_fit held (s ∷ slots) ps shown known fit =
-    let parts = and_both (is_known s) (list_all is_known slots) known in
+    let parts = and_parts (is_known s) (list_all is_known slots) known in
     (shown_fits held s shown.0 parts.0, slots_fit held slots ps shown.1 parts.1 fit)
 
 operands_fit : (lead : Slot) (operands : List Operand) (helds : List Held) → is_known lead ≡ true →

@@ -13,6 +13,9 @@ use Rattle.sl_model.specs.declared.text.TokenKind.TheVariants.{Word, Number, Mar
 use Rattle.sl_model.specs.Text.{is_blank}
 use Rattle.sl_model.specs.Token.{Lexeme, begins_word, is_word_byte, comment_length, begins_line_comment, first_char, first_token, lexeme, tokens_from}
 use Rattle.form_table.specs.Tables.{is_word_text}
+use Rattle.sl_laws.proofs.Tests.{then_parts}
+use Rattle.sl_laws.proofs.Texts.{begin_word, digit_alphanumeric}
+use Rattle.std.proofs.lemmas.Bool.{and_parts}
 
 -- ---- runs of bytes
 
@@ -26,19 +29,11 @@ abbrev pub is_run : List ℕ → Bool
 is_run [] = false
 is_run (c ∷ text) = cond (is_ascii_digit c) (list_all is_ascii_alphanumeric text) false
 
-pub both : (a b : Bool) → cond a b false ≡ true → (a ≡ true) × (b ≡ true)
-both true b e = (refl, e)
-both false b e = absurd cc
-
-pub and_both : (a b : Bool) → (a && b) ≡ true → (a ≡ true) × (b ≡ true)
-and_both true b e = (refl, e)
-and_both false b e = absurd cc
-
 run_length : (p : ℕ → Bool) (w behind : List ℕ) → list_all p w ≡ true → prefix_len p behind ≡ 0 →
     prefix_len p (w ++ behind) ≡ length w
 run_length p [] behind all ends = ends
 run_length p (c ∷ w) behind all ends =
-    let parts = and_both (p c) (list_all p w) all in
+    let parts = and_parts (p c) (list_all p w) all in
     let same : 1 + length w ≡ suc (length w) = omega arith in
     ap (λ b. cond b (1 + prefix_len p (w ++ behind)) 0) parts.0 ∙ (ap (λ n. 1 + n) (run_length p w behind parts.1 ends) ∙ same)
 
@@ -162,12 +157,6 @@ token_read comments place c w behind kind o e =
 
 -- ---- words, numbers and marks
 
-word_byte : (c : ℕ) → begins_word c ≡ true → is_word_byte c ≡ true
-word_byte c e = grind (arith, nat_tests)
-
-digit_byte : (c : ℕ) → is_ascii_digit c ≡ true → is_ascii_alphanumeric c ≡ true
-digit_byte c e = grind (arith, nat_tests)
-
 digit_no_word : (c : ℕ) → is_ascii_digit c ≡ true → begins_word c ≡ false
 digit_no_word c e = grind (arith, nat_tests)
 
@@ -175,8 +164,8 @@ pub word_read : (comments : Comments) (place : ℕ) (w behind : List ℕ) → is
     tokens_from comments place 0 (w ++ behind) ≡ token Word w place ∷ tokens_from comments (place + length w) 0 behind
 word_read comments place [] behind name ends = absurd cc
 word_read comments place (c ∷ w) behind name ends =
-    let parts = both (begins_word c) (list_all is_word_byte w) name in
-    let all : list_all is_word_byte (c ∷ w) ≡ true = ap (λ b. b && list_all is_word_byte w) (word_byte c parts.0) ∙ parts.1 in
+    let parts = then_parts (begins_word c) (list_all is_word_byte w) name in
+    let all : list_all is_word_byte (c ∷ w) ≡ true = ap (λ b. b && list_all is_word_byte w) (begin_word c parts.0) ∙ parts.1 in
     let size = run_length is_word_byte (c ∷ w) behind all (word_stops behind ends) in
     token_read comments place c w behind Word (word_opens c parts.0)
     (ap (λ b. by_kind b (is_ascii_digit c) c (c ∷ (w ++ behind))) parts.0
@@ -186,9 +175,9 @@ pub run_read : (comments : Comments) (place : ℕ) (w behind : List ℕ) → is_
     tokens_from comments place 0 (w ++ behind) ≡ token Number w place ∷ tokens_from comments (place + length w) 0 behind
 run_read comments place [] behind run ends = absurd cc
 run_read comments place (c ∷ w) behind run ends =
-    let parts = both (is_ascii_digit c) (list_all is_ascii_alphanumeric w) run in
+    let parts = then_parts (is_ascii_digit c) (list_all is_ascii_alphanumeric w) run in
     let all : list_all is_ascii_alphanumeric (c ∷ w) ≡ true =
-    ap (λ b. b && list_all is_ascii_alphanumeric w) (digit_byte c parts.0) ∙ parts.1 in
+    ap (λ b. b && list_all is_ascii_alphanumeric w) (digit_alphanumeric c parts.0) ∙ parts.1 in
     let size = run_length is_ascii_alphanumeric (c ∷ w) behind all (run_stops behind ends) in
     token_read comments place c w behind Number (digit_opens c parts.0)
     (ap (λ b. by_kind b (is_ascii_digit c) c (c ∷ (w ++ behind))) (digit_no_word c parts.0)

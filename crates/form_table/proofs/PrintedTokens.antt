@@ -13,9 +13,10 @@ use Rattle.form_table.specs.declared.rows.Name.TheVariants as word
 use Rattle.form_table.specs.declared.rows.Slot.{Slot}
 use Rattle.form_table.specs.declared.rows.Slot.TheVariants as slot
 use Rattle.form_table.specs.declared.spells.Held.{Held}
-use Rattle.form_table.proofs.PrintedRuns.{stops, both, token, IsMark, word_read, run_read, mark_read, blank_passed}
+use Rattle.form_table.proofs.PrintedRuns.{stops, token, IsMark, word_read, run_read, mark_read, blank_passed}
 use Rattle.form_table.proofs.PrintedNames.{decimal_run}
 use Rattle.form_table.proofs.PrintedPieces.{IsSmall, IsIndex, Piece, pieces_text, Before, name, mark, blank, behind, may_follow, flows, is_printed_mark, Fits, Good}
+use Rattle.sl_laws.proofs.Tests.{then_parts}
 
 -- ---- the tokens
 
@@ -72,6 +73,25 @@ mark_cases P a b c d e code is =
     mark_case P code 46 _ a (mark_case P code 44 _ b (mark_case P code 91 _ c (mark_case P code 93 _ d
     (λ last. subst P (sym (eqb-true code 33 last)) e)))) is
 
+-- what holds of each name holds of all
+pub each_name : (P : Name → Type 0) → P word.Lsl → P word.Lsr → P word.Asr → P word.Ror → P word.Lanes8b → P word.Lanes16b → P word.Lanes4h → P word.Lanes8h → P word.Lanes2s → P word.Lanes4s → P word.Lanes2d
+    → P word.LaneB → P word.LaneH → P word.LaneS → P word.LaneD → (n : Name) → P n
+each_name P a b c d e f g h i j k l m n o word.Lsl = a
+each_name P a b c d e f g h i j k l m n o word.Lsr = b
+each_name P a b c d e f g h i j k l m n o word.Asr = c
+each_name P a b c d e f g h i j k l m n o word.Ror = d
+each_name P a b c d e f g h i j k l m n o word.Lanes8b = e
+each_name P a b c d e f g h i j k l m n o word.Lanes16b = f
+each_name P a b c d e f g h i j k l m n o word.Lanes4h = g
+each_name P a b c d e f g h i j k l m n o word.Lanes8h = h
+each_name P a b c d e f g h i j k l m n o word.Lanes2s = i
+each_name P a b c d e f g h i j k l m n o word.Lanes4s = j
+each_name P a b c d e f g h i j k l m n o word.Lanes2d = k
+each_name P a b c d e f g h i j k l m n o word.LaneB = l
+each_name P a b c d e f g h i j k l m n o word.LaneH = m
+each_name P a b c d e f g h i j k l m n o word.LaneS = n
+each_name P a b c d e f g h i j k l m n o word.LaneD = o
+
 is_46 : IsMark 46
 is_46 = record { opens = record { ascii = omega arith; slash = refl; at = refl; blank = refl }; no_word = refl; no_digit = refl }
 
@@ -94,11 +114,11 @@ is_45 : IsMark 45
 is_45 = record { opens = record { ascii = omega arith; slash = refl; at = refl; blank = refl }; no_word = refl; no_digit = refl }
 
 -- A text at a place gives these tokens, and then those behind it.
-abbrev Gives : Comments → ℕ → List ℕ → List Lexeme → List ℕ → Type 0
-Gives comments place text tokens more = tokens_from comments place 0 (text ++ more) ≡ tokens ++ tokens_from comments (place + length text) 0 more
+abbrev AreTokens : Comments → ℕ → List ℕ → List Lexeme → List ℕ → Type 0
+AreTokens comments place text tokens more = tokens_from comments place 0 (text ++ more) ≡ tokens ++ tokens_from comments (place + length text) 0 more
 
 number_gives : (comments : Comments) (place : ℕ) (o : Option ℤ) (more : List ℕ) → IsSmall o → stops more ≡ true →
-    Gives comments place (number_text o) (number_tokens place o) more
+    AreTokens comments place (number_text o) (number_tokens place o) more
 number_gives comments place None more small ends = absurd small
 number_gives comments place (Some (pos n)) more small ends = run_read comments place (decimal n) more (decimal_run n (omega arith)) ends
 number_gives comments place (Some (negsuc n)) more small ends =
@@ -115,7 +135,7 @@ index_small (Some (pos n)) i = i
 index_small (Some (negsuc n)) i = absurd i
 
 hash_gives : (comments : Comments) (place : ℕ) (o : Option ℤ) (more : List ℕ) → IsSmall o → stops more ≡ true →
-    Gives comments place (35 ∷ number_text o) (token Mark (35 ∷ []) place ∷ number_tokens (place + 1) o) more
+    AreTokens comments place (35 ∷ number_text o) (token Mark (35 ∷ []) place ∷ number_tokens (place + 1) o) more
 hash_gives comments place o more small ends =
     let same : place + 1 + length (number_text o) ≡ place + suc (length (number_text o)) = omega arith in
     mark_read comments place 35 (number_text o ++ more) is_35
@@ -124,7 +144,7 @@ hash_gives comments place o more small ends =
     ∙ ap (λ end. number_tokens (place + 1) o ++ tokens_from comments end 0 more) same)
 
 comma_gives : (comments : Comments) (place : ℕ) (more : List ℕ) →
-    Gives comments place (44 ∷ 32 ∷ []) (token Mark (44 ∷ []) place ∷ []) more
+    AreTokens comments place (44 ∷ 32 ∷ []) (token Mark (44 ∷ []) place ∷ []) more
 comma_gives comments place more =
     let same : place + 1 + 1 ≡ place + 2 = omega arith in
     mark_read comments place 44 (32 ∷ more) is_44
@@ -132,15 +152,15 @@ comma_gives comments place more =
     (blank_passed comments (place + 1) more ∙ ap (λ end. tokens_from comments end 0 more) same)
 
 mark_gives : (comments : Comments) (place : ℕ) (held : Held) (more : List ℕ) (code : ℕ) → is_printed_mark code ≡ true →
-    Gives comments place (slot_text held (slot.Mark code)) (token Mark (code ∷ []) place ∷ []) more
+    AreTokens comments place (slot_text held (slot.Mark code)) (token Mark (code ∷ []) place ∷ []) more
 unfolding slot_text
 mark_gives comments place held more code is =
-    mark_cases (λ c. Gives comments place (slot_text held (slot.Mark c)) (token Mark (c ∷ []) place ∷ []) more)
+    mark_cases (λ c. AreTokens comments place (slot_text held (slot.Mark c)) (token Mark (c ∷ []) place ∷ []) more)
     (mark_read comments place 46 more is_46) (comma_gives comments place more) (mark_read comments place 91 more is_91)
     (mark_read comments place 93 more is_93) (mark_read comments place 33 more is_33) code is
 
 name_gives : (comments : Comments) (place : ℕ) (n : Name) (more : List ℕ) → stops more ≡ true →
-    Gives comments place (name_text n) (token (name_kind n) (name_text n) place ∷ []) more
+    AreTokens comments place (name_text n) (token (name_kind n) (name_text n) place ∷ []) more
 name_gives comments place word.Lsl more ends = word_read comments place (name_text word.Lsl) more refl ends
 name_gives comments place word.Lsr more ends = word_read comments place (name_text word.Lsr) more refl ends
 name_gives comments place word.Asr more ends = word_read comments place (name_text word.Asr) more refl ends
@@ -165,7 +185,7 @@ ends_before blank more = true
 
 slot_gives : (comments : Comments) (place : ℕ) (held : Held) (s : Slot) (more : List ℕ) → Fits held s →
     ends_before (behind s) more ≡ true →
-    Gives comments place (slot_text held s) (slot_tokens place held s) more
+    AreTokens comments place (slot_text held s) (slot_tokens place held s) more
 unfolding slot_text
 slot_gives comments place held slot.Gap more fit ends = blank_passed comments place more
 slot_gives comments place held (slot.Mark code) more fit ends = mark_gives comments place held more code fit
@@ -194,7 +214,7 @@ pieces_stop mark ps more good ends = refl
 pieces_stop blank ps more good ends = refl
 pieces_stop name [] more good ends = ends
 pieces_stop name (p ∷ ps) more good ends =
-    let parts = both (may_follow name (behind p.slot)) (flows (behind p.slot) ps) good.flow in
+    let parts = then_parts (may_follow name (behind p.slot)) (flows (behind p.slot) ps) good.flow in
     ap stops (append_assoc (slot_text p.held p.slot) (pieces_text ps) more) ∙ slot_stops p.held p.slot (pieces_text ps ++ more) parts.0 good.fit.0
 
 -- pieces give their tokens
@@ -203,7 +223,7 @@ pub pieces_give : (comments : Comments) (place : ℕ) (before : Before) (ps : Li
     tokens_from comments place 0 (pieces_text ps ++ more) ≡ pieces_tokens place ps ++ tokens_from comments (place + length (pieces_text ps)) 0 more
 pieces_give comments place before [] more good ends = let same : place ≡ place + 0 = omega arith in ap (λ n. tokens_from comments n 0 more) same
 pieces_give comments place before (p ∷ ps) more good ends =
-    let parts = both (may_follow before (behind p.slot)) (flows (behind p.slot) ps) good.flow in
+    let parts = then_parts (may_follow before (behind p.slot)) (flows (behind p.slot) ps) good.flow in
     let later : Good (behind p.slot) ps = record { flow = parts.1; fit = good.fit.1 } in
     let text : List ℕ = slot_text p.held p.slot in
     let next : ℕ = place + length text in

@@ -7,15 +7,15 @@ use Rattle.sl_model.specs.declared.text.Comments.{Comments}
 use Rattle.sl_model.specs.declared.text.TokenKind.TheVariants.{Word, Mark}
 use Rattle.sl_model.specs.Text.{is_blank}
 use Rattle.sl_model.specs.Token.{Lexeme, is_word_byte, tokens_from, tokens_at}
-use Rattle.sl_isa.specs.Arch.{is_instruction_token, is_behind}
-use Rattle.form_table.specs.Tables.{is_led}
-use Rattle.form_table.specs.Items.{marks, items_from}
+use Rattle.sl_isa.specs.Language.{is_instruction_token, is_behind}
+use Rattle.form_table.specs.Tables.{is_led, is_word_text}
+use Rattle.sl_model.specs.TokenTests.{marks}
+use Rattle.form_table.specs.Items.{items_from}
 use Rattle.form_table.specs.Rows.{name_text, row_operands, mnemonic_text, slots_of}
 use Rattle.form_table.specs.Spells.{comma}
 use Rattle.form_table.specs.Reads.{is_suffixed}
 use Rattle.form_table.specs.Printed.{slot_text, row_text}
 use Rattle.form_table.specs.declared.rows.Name.{Name}
-use Rattle.form_table.specs.declared.rows.Name.TheVariants as name
 use Rattle.form_table.specs.declared.rows.Slot.{Slot}
 use Rattle.form_table.specs.declared.rows.Slot.TheVariants as slot
 use Rattle.form_table.specs.declared.rows.Shape.{Shape}
@@ -23,14 +23,14 @@ use Rattle.form_table.specs.declared.rows.Shape.TheVariants as shape
 use Rattle.form_table.specs.declared.rows.Operand.{Operand}
 use Rattle.form_table.specs.declared.rows.Row.{Row}
 use Rattle.form_table.specs.declared.spells.Held.{Held}
-use Rattle.form_table.specs.Tables.{is_word_text}
 use Rattle.form_table.proofs.SlotItems.{operand_items, IsPrintable}
-use Rattle.form_table.proofs.PrintedRuns.{stops, both, token, word_read}
+use Rattle.form_table.proofs.PrintedRuns.{stops, token, word_read}
 use Rattle.form_table.proofs.PrintedNames.{all_more}
 use Rattle.form_table.proofs.PrintedPieces.{IsSmall, IsIndex, Piece, pieces_of, row_pieces, pieces_text, pieces_items, text_is, items_are, Before, behind, flows, is_printed_mark, Fits, AllFit, Good, row_good}
 use Rattle.form_table.proofs.PrintedPieces as before
-use Rattle.form_table.proofs.PrintedTokens.{name_kind, number_tokens, slot_tokens, pieces_tokens, mark_cases, pieces_stop, pieces_give}
+use Rattle.form_table.proofs.PrintedTokens.{name_kind, number_tokens, slot_tokens, pieces_tokens, mark_cases, pieces_stop, pieces_give, each_name}
 use Rattle.form_table.proofs.PrintedItems.{word_pieces}
+use Rattle.sl_laws.proofs.Tests.{then_parts}
 
 -- ---- all are tokens of instructions
 
@@ -40,23 +40,7 @@ number_plain place (Some (pos n)) = refl
 number_plain place (Some (negsuc n)) = refl
 
 name_plain : (n : Name) (place : ℕ) → list_all is_instruction_token (token (name_kind n) (name_text n) place ∷ []) ≡ true
-name_plain n place = elim n as (λ n. list_all is_instruction_token (token (name_kind n) (name_text n) place ∷ []) ≡ true) [
-  | name.Lsl ↦ refl
-  | name.Lsr ↦ refl
-  | name.Asr ↦ refl
-  | name.Ror ↦ refl
-  | name.Lanes8b ↦ refl
-  | name.Lanes16b ↦ refl
-  | name.Lanes4h ↦ refl
-  | name.Lanes8h ↦ refl
-  | name.Lanes2s ↦ refl
-  | name.Lanes4s ↦ refl
-  | name.Lanes2d ↦ refl
-  | name.LaneB ↦ refl
-  | name.LaneH ↦ refl
-  | name.LaneS ↦ refl
-  | name.LaneD ↦ refl
-]
+name_plain n place = each_name (λ n. list_all is_instruction_token (token (name_kind n) (name_text n) place ∷ []) ≡ true) refl refl refl refl refl refl refl refl refl refl refl refl refl refl refl n
 
 slot_plain : (place : ℕ) (held : Held) (s : Slot) → Fits held s → list_all is_instruction_token (slot_tokens place held s) ≡ true
 slot_plain place held slot.Gap fit = refl
@@ -92,23 +76,7 @@ no_suffix first (t ∷ u ∷ tokens) e = no_dot (marks 46 t) _ e
     no_dot false more e = refl
 
 name_dotless : (n : Name) (place : ℕ) (tokens : List Lexeme) → is_dotless (token (name_kind n) (name_text n) place ∷ tokens) ≡ true
-name_dotless n place tokens = elim n as (λ n. is_dotless (token (name_kind n) (name_text n) place ∷ tokens) ≡ true) [
-  | name.Lsl ↦ refl
-  | name.Lsr ↦ refl
-  | name.Asr ↦ refl
-  | name.Ror ↦ refl
-  | name.Lanes8b ↦ refl
-  | name.Lanes16b ↦ refl
-  | name.Lanes4h ↦ refl
-  | name.Lanes8h ↦ refl
-  | name.Lanes2s ↦ refl
-  | name.Lanes4s ↦ refl
-  | name.Lanes2d ↦ refl
-  | name.LaneB ↦ refl
-  | name.LaneH ↦ refl
-  | name.LaneS ↦ refl
-  | name.LaneD ↦ refl
-]
+name_dotless n place tokens = each_name (λ n. is_dotless (token (name_kind n) (name_text n) place ∷ tokens) ≡ true) refl refl refl refl refl refl refl refl refl refl refl refl refl refl refl n
 
 index_dotless : (o : Option ℤ) (place : ℕ) (tokens : List Lexeme) → IsIndex o → is_dotless (number_tokens place o ++ tokens) ≡ true
 index_dotless None place tokens index = absurd index
@@ -130,7 +98,7 @@ behind_blank_dotless place held slot.Condition tokens may fit = refl
 blank_dotless : (place : ℕ) (ps : List Piece) → Good before.blank ps → is_dotless (pieces_tokens place ps) ≡ true
 blank_dotless place [] good = let none : false ≡ true = good.flow in absurd cc
 blank_dotless place (p ∷ ps) good =
-    let parts = both (before.may_follow before.blank (behind p.slot)) (flows (behind p.slot) ps) good.flow in
+    let parts = then_parts (before.may_follow before.blank (behind p.slot)) (flows (behind p.slot) ps) good.flow in
     behind_blank_dotless place p.held p.slot _ parts.0 good.fit.0
 
 -- Do pieces begin with a blank or a comma, if there are any?
@@ -163,7 +131,7 @@ lead_dotless place held slot.Condition ps led good = absurd cc
 pieces_dotless : (place : ℕ) (ps : List Piece) → are_led ps ≡ true → Good before.name ps → is_dotless (pieces_tokens place ps) ≡ true
 pieces_dotless place [] led good = refl
 pieces_dotless place (p ∷ ps) led good =
-    let parts = both (before.may_follow before.name (behind p.slot)) (flows (behind p.slot) ps) good.flow in
+    let parts = then_parts (before.may_follow before.name (behind p.slot)) (flows (behind p.slot) ps) good.flow in
     lead_dotless place p.held p.slot ps led (record { flow = parts.1; fit = good.fit.1 })
 
 shape_led : (lead : Slot) (s : Shape) (held : Held) (ps : List Piece) → is_lead lead ≡ true → are_led ps ≡ true →

@@ -10,7 +10,8 @@ use Rattle.sl_model.specs.declared.instruction.Instr.{Instr}
 use Rattle.sl_model.specs.Token.{Lexeme}
 use Rattle.sl_isa.specs.declared.reasons.FormReason.{FormReason}
 use Rattle.sl_isa.specs.declared.reasons.FormReason.TheVariants.{UnknownMnemonic, ImmediateRange, RegisterClass, SameRegister}
-use Rattle.form_table.specs.Items.{Item, is_word, items_from}
+use Rattle.form_table.specs.Items.{Item, items_from}
+use Rattle.sl_model.specs.TokenTests.{is_word}
 use Rattle.form_table.specs.Rows.{row_operands, mnemonic_text}
 use Rattle.form_table.specs.Spells.{fill}
 use Rattle.form_table.specs.Reads.{has_mnemonic, fit_row, fit_or, fit_from, settled, numbers_suit, sum_suits, registers_suit, number_at, repeats, results, shares_base, instr_of, judged, judged_at, settled_at, with_fit, is_suffixed, knows, reads}
@@ -20,12 +21,13 @@ use Rattle.form_table.specs.declared.rows.Slot.TheVariants as slot
 use Rattle.form_table.specs.declared.rows.Row.{Row}
 use Rattle.form_table.specs.declared.spells.Held.{Held}
 use Rattle.form_table.specs.declared.reader.Fit.{Fit}
-use Rattle.form_table.proofs.Unique.{both_true, lower_same, fit_row_is, fit_is_found}
+use Rattle.form_table.proofs.Unique.{lower_same, fit_row_is, fit_is_found}
 use Rattle.form_table.proofs.Again.{helds_again}
 use Rattle.form_table.proofs.SlotItems.{operand_items, IsPrintable}
 use Rattle.form_table.proofs.Filled.{Filled, fill_filled, filled_again}
 use Rattle.form_table.proofs.Kept.{IsSettled, settled_is}
 use Rattle.form_table.proofs.Printable.{filled_printable, filled_places}
+use Rattle.sl_laws.proofs.Tests.{then_parts}
 
 -- An instruction is printed by a row, with what its operands hold; and tokens that begin with its mnemonic and give its
 -- items are read as the instruction.
@@ -84,10 +86,12 @@ pub not_refused : (b : Bool) (reason : FormReason) (x : Result Instr FormReason)
 not_refused true reason x i e = (refl, e)
 not_refused false reason x i e = absurd cc
 
+-- and where no test passes over it
 pub passed : (b : Bool) (reason : FormReason) (x : Result Instr FormReason) (i : Instr) → cond b (Err reason) x ≡ Ok i → x ≡ Ok i
 passed true reason x i e = absurd cc
 passed false reason x i e = e
 
+-- equal answers
 pub same_Ok : (i j : Instr) → (let a : Result Instr FormReason = Ok i in a ≡ Ok j) → i ≡ j
 same_Ok i j e = cc
 
@@ -101,7 +105,8 @@ judged_is form row helds i e =
     let five = passed (shares_base row helds) SameRegister _ i four in
     (one.0, same_Ok (instr_of form row helds) i five)
 
-form_of : (form : ℕ) (row : Row) (helds : List Held) → (instr_of form row helds).form ≡ form
+-- the form of an instruction that was made
+pub form_of : (form : ℕ) (row : Row) (helds : List Held) → (instr_of form row helds).form ≡ form
 unfolding instr_of
 form_of form row helds = refl
 
@@ -141,8 +146,8 @@ kept_read table fit first rest differ s word text plain items =
 
 rows_at : (rows : List Row) (k : ℕ) (row : Row) → all_rows rows ≡ true → slice_get rows k ≡ Some row → is_row row ≡ true
 rows_at [] k row e at = absurd cc
-rows_at (r ∷ rows) zero row e at = subst (λ v. is_row v ≡ true) (let same : r ≡ row = cc in same) (both_true (is_row r) (all_rows rows) e).0
-rows_at (r ∷ rows) (suc k) row e at = rows_at rows k row (both_true (is_row r) (all_rows rows) e).1 at
+rows_at (r ∷ rows) zero row e at = subst (λ v. is_row v ≡ true) (let same : r ≡ row = cc in same) (then_parts (is_row r) (all_rows rows) e).0
+rows_at (r ∷ rows) (suc k) row e at = rows_at rows k row (then_parts (is_row r) (all_rows rows) e).1 at
 
 -- an instruction is printed by its row
 printed_is : (table : List Row) (form : ℕ) (row : Row) (helds : List Held) → slice_get table form ≡ Some row → is_row row ≡ true → Filled (row_operands row) helds →
@@ -154,8 +159,8 @@ printed_is table form row helds at fine f =
 
 kept_again : (table : List Row) (fit : Fit) (i : Instr) → is_table table ≡ true → (s : IsSettled table fit) → judged fit.form s.row fit.helds ≡ Ok i → IsReadAgain table i
 kept_again table fit i tests s e =
-    let one = both_true (all_differ table) (cond (all_kept table table) (all_rows table) false) tests in
-    let two = both_true (all_kept table table) (all_rows table) one.1 in
+    let one = then_parts (all_differ table) (cond (all_kept table table) (all_rows table) false) tests in
+    let two = then_parts (all_kept table table) (all_rows table) one.1 in
     let fine : is_row s.row ≡ true = rows_at table fit.form s.row two.1 s.at in
     let parts = judged_is fit.form s.row fit.helds i e in
     let made : instr_of fit.form s.row fit.helds ≡ i = parts.1 in
@@ -180,8 +185,8 @@ fit_kept : (table : List Row) (text : List ℕ) (items : List Item) (o : Option 
     with_fit table o ≡ Ok i → IsReadBy table i
 fit_kept table text items None i tests found e = absurd cc
 fit_kept table text items (Some fit) i tests found e =
-    let one = both_true (all_differ table) (cond (all_kept table table) (all_rows table) false) tests in
-    let two = both_true (all_kept table table) (all_rows table) one.1 in
+    let one = then_parts (all_differ table) (cond (all_kept table table) (all_rows table) false) tests in
+    let two = then_parts (all_kept table table) (all_rows table) one.1 in
     let f = fit_from_is 0 table text items fit found in
     let place : ℕ = f.place in
     let start : place ≡ 0 + place = omega arith in

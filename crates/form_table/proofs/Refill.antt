@@ -18,6 +18,7 @@ use Rattle.form_table.specs.declared.spells.Held.{Held}
 use Rattle.form_table.proofs.Unique.{lower_same}
 use Rattle.form_table.proofs.SlotItems.{slot_item, slot_items, ShowsRegister, ShowsCondition}
 use Rattle.form_table.proofs.Named.{register_is_read, condition_is_read}
+use Rattle.sl_laws.proofs.Tests.{else_parts, neither_parts}
 
 -- Does a slot set the register of an operand, and does it set its number?
 abbrev pub sets_register : Slot → Bool
@@ -235,15 +236,6 @@ pub record IsFront (held : Held) (slots : List Slot) (final : Held) : Type 0 whe
   pub holds : HoldsSlots final slots
   pub again : (more : List Item) → front held slots (slot_items final slots ++ more) ≡ Some (record { held = final; rest = more })
 
--- tests that hold of neither, of one and not of the other, and of one of two
-neither : (a b : Bool) → cond a true b ≡ false → (a ≡ false) × (b ≡ false)
-neither true b e = absurd cc
-neither false b e = (refl, e)
-
-and_neither : (a b : Bool) → cond a false b ≡ true → (a ≡ false) × (b ≡ true)
-and_neither true b e = absurd cc
-and_neither false b e = (refl, e)
-
 not_both : (a b : Bool) → cond a b false ≡ false → a ≡ true → b ≡ false
 not_both true b e t = e
 not_both false b e t = absurd cc
@@ -271,15 +263,15 @@ front_again held next final s slots more e f = ap (λ o. option_and_then (λ h. 
 
 front_some : (held next final : Held) (s : Slot) (slots : List Slot) → is_single (s ∷ slots) ≡ true → IsPut held next s → IsFront next slots final → IsFront held (s ∷ slots) final
 front_some held next final s slots single p f =
-    let one = and_neither (cond (sets_register s) (set_register slots) false) (cond (cond (sets_number s) (set_number slots) false) false (is_single slots)) single in
-    let two = and_neither (cond (sets_number s) (set_number slots) false) (is_single slots) one.1 in
+    let one = else_parts (cond (sets_register s) (set_register slots) false) (cond (cond (sets_number s) (set_number slots) false) false (is_single slots)) single in
+    let two = else_parts (cond (sets_number s) (set_number slots) false) (is_single slots) one.1 in
     let keeps : Keeps s next final = record {
       register = λ t. f.register (not_both (sets_register s) (set_register slots) one.0 t);
       number = λ t. f.number (not_both (sets_number s) (set_number slots) two.0 t);
     } in
     record {
-      register = λ t. let parts = neither (sets_register s) (set_register slots) t in f.register parts.1 ∙ p.register parts.0;
-      number = λ t. let parts = neither (sets_number s) (set_number slots) t in f.number parts.1 ∙ p.number parts.0;
+      register = λ t. let parts = neither_parts (sets_register s) (set_register slots) t in f.register parts.1 ∙ p.register parts.0;
+      number = λ t. let parts = neither_parts (sets_number s) (set_number slots) t in f.number parts.1 ∙ p.number parts.0;
       register_there = λ t. ⊎_elim f.register_there (λ w. ap is_some (f.register w.1) ∙ p.register_there w.0) (one_of (sets_register s) (set_register slots) t);
       number_there = λ t. ⊎_elim f.number_there (λ w. ap is_some (f.number w.1) ∙ p.number_there w.0) (one_of (sets_number s) (set_number slots) t);
       holds = (p.holds final keeps, f.holds);
@@ -294,7 +286,7 @@ front_is held [] items t single e =
     front_none held t.held (ap (λ (v : Taken). v.held) (same_Some made t e))
 front_is held (s ∷ slots) [] t single e = absurd cc
 front_is held (s ∷ slots) (item ∷ items) t single e =
-    let one = and_neither (cond (sets_register s) (set_register slots) false) (cond (cond (sets_number s) (set_number slots) false) false (is_single slots)) single in
-    let two = and_neither (cond (sets_number s) (set_number slots) false) (is_single slots) one.1 in
+    let one = else_parts (cond (sets_register s) (set_register slots) false) (cond (cond (sets_number s) (set_number slots) false) false (is_single slots)) single in
+    let two = else_parts (cond (sets_number s) (set_number slots) false) (is_single slots) one.1 in
     option_and_then_some (λ next. front next slots items) (put held s item) t e
     (λ next took rest. front_some held next t.held s slots single (put_is held next s item took) (front_is next slots items t two.1 rest))

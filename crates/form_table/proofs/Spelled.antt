@@ -1,31 +1,27 @@
 -- What is printed of an instruction that was read is read as the same, wherever it stands on a line.
-use Rattle.std.proofs.Common.{◌≡◌, ℕ, zero, suc, Bool, true, false, cond, List, [], ◌∷◌, refl}
+use Rattle.std.proofs.Common.{◌≡◌, ℕ, zero, suc, true, List, [], ◌∷◌, subst, sym}
 use Rattle.std.specs.Prelude.{Some, slice_get, Ok}
-use Rattle.std.proofs.Common.{subst, sym}
 use Rattle.sl_model.specs.declared.instruction.Instr.{Instr}
 use Rattle.sl_model.specs.declared.text.Comments.{Comments}
 use Rattle.sl_model.specs.Token.{Lexeme}
-use Rattle.sl_isa.specs.Arch.{is_behind, IsSpelledAt}
+use Rattle.sl_isa.specs.Language.{is_behind, IsSpelledAt}
 use Rattle.form_table.specs.Reads.{reads}
 use Rattle.form_table.specs.Printed.{printed}
 use Rattle.form_table.specs.Tables.{is_led, all_led, is_table, is_readable}
 use Rattle.form_table.specs.declared.rows.Row.{Row}
 use Rattle.form_table.proofs.ReadAgain.{IsReadAgain, read_again}
 use Rattle.form_table.proofs.PrintedWords.{GivesWords, row_words}
-
-both : (a b : Bool) → cond a b false ≡ true → (a ≡ true) × (b ≡ true)
-both true b e = (refl, e)
-both false b e = absurd cc
+use Rattle.sl_laws.proofs.Tests.{then_parts}
 
 led_at : (rows : List Row) (k : ℕ) (row : Row) → all_led rows ≡ true → slice_get rows k ≡ Some row → is_led row.first.shape ≡ true
 led_at [] k row e at = absurd cc
-led_at (r ∷ rows) zero row e at = subst (λ (v : Row). is_led v.first.shape ≡ true) (let same : r ≡ row = cc in same) (both (is_led r.first.shape) (all_led rows) e).0
-led_at (r ∷ rows) (suc k) row e at = led_at rows k row (both (is_led r.first.shape) (all_led rows) e).1 at
+led_at (r ∷ rows) zero row e at = subst (λ (v : Row). is_led v.first.shape ≡ true) (let same : r ≡ row = cc in same) (then_parts (is_led r.first.shape) (all_led rows) e).0
+led_at (r ∷ rows) (suc k) row e at = led_at rows k row (then_parts (is_led r.first.shape) (all_led rows) e).1 at
 
 pub spelled_at : (table : List Row) → is_readable table ≡ true → (words : List Lexeme) (i : Instr) → reads table words ≡ Ok i →
     (comments : Comments) (place : ℕ) (behind : List ℕ) → is_behind behind ≡ true → IsSpelledAt (reads table) comments (printed table i) place behind i
 spelled_at table tests words i e comments place behind quiet =
-    let parts = both (is_table table) (all_led table) tests in
+    let parts = then_parts (is_table table) (all_led table) tests in
     let again : IsReadAgain table i = read_again table words i parts.0 e in
     let led = led_at table i.form again.row parts.1 again.at in
     let given : GivesWords again.row again.helds comments place behind = row_words again.row again.helds comments place behind led again.printable quiet in

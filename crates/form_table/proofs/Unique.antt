@@ -4,14 +4,15 @@ use Rattle.std.specs.Prelude.{Option, Some, None, option_and_then, slice_get, co
 use Rattle.std.specs.Str.{str_to_ascii_lowercase, str_eq_ignore_ascii_case}
 use Rattle.std.specs.Char.{to_ascii_lowercase}
 use Rattle.std.proofs.Math.Logic.{⊎_elim}
-use Rattle.std.proofs.lemmas.Bool.{cases_Bool}
+use Rattle.std.proofs.lemmas.Bool.{cases_Bool, false≢true}
 use Rattle.std.proofs.lemmas.Bool.Decides.{Decides-eqb, nat_tests}
 use Rattle.std.proofs.lemmas.Option.{option_and_then_some, cond_some, same_Some}
 use Rattle.std.proofs.lemmas.Slice.Eq.{bytes_eq-Decides}
 use Rattle.sl_model.specs.declared.register.Bank.{Bank}
 use Rattle.sl_model.specs.declared.register.Bank.TheVariants.{General, Vector}
 use Rattle.sl_model.specs.declared.register.Reg.{Reg}
-use Rattle.form_table.specs.Numerals.{decimal_value, digits_number}
+use Rattle.sl_model.specs.Digits.{decimal_number, digits_number}
+use Rattle.form_table.specs.Numerals.{decimal_value}
 use Rattle.form_table.specs.Items.{Item, blank, mark, word, numeral}
 use Rattle.form_table.specs.Rows.{name_text, mnemonic_text, slots_of, row_slots}
 use Rattle.form_table.specs.Spells.{Taken, numbered, below_count, unless_r13, register_of, empty, put, front, ended, comma, fill}
@@ -24,6 +25,7 @@ use Rattle.form_table.specs.declared.rows.Slot.{Slot}
 use Rattle.form_table.specs.declared.rows.Slot.TheVariants as slot
 use Rattle.form_table.specs.declared.rows.Row.{Row}
 use Rattle.form_table.specs.declared.spells.Held.{Held}
+use Rattle.sl_laws.proofs.Tests.{then_parts}
 
 -- the first character of a word, and 0 of an empty one
 abbrev pub first_of : List ℕ → ℕ
@@ -64,7 +66,7 @@ either false x o r e = inr e
 
 -- `sp` names no register of 32 bits
 no_digit_p : (d : ℕ) → to_ascii_lowercase d ≡ 112 → decimal_value (d ∷ []) ≡ None
-unfolding decimal_value digits_number
+unfolding decimal_value decimal_number digits_number
 no_digit_p d e = grind (arith, nat_tests)
 
 none_of : {A B : Type 0} (b : Bool) (f : A → Option B) (o : Option A) → o ≡ None → cond b (option_and_then f o) None ≡ None
@@ -162,9 +164,6 @@ pub cond_false : (b : Bool) (x y : Bool) → b ≡ false → cond b x y ≡ y
 cond_false true x y e = absurd cc
 cond_false false x y e = refl
 
-pub no_truth : false ≡ true → ⊥
-no_truth e = absurd cc
-
 letters_clash : (a b : Letter) (text : List ℕ) (r q : Reg) → letters_differ a b ≡ true → register_of a text ≡ Some r → register_of b text ≡ Some q → ⊥
 letters_clash a b text r q d e f =
     let test : Bool = not (letter_code a == letter_code b) in
@@ -179,7 +178,7 @@ letters_clash a b text r q d e f =
     let second : cond (is_plain b) test false ≡ true = sym (cond_false (is_plain a) test (cond (is_plain b) test false) p) ∙ d in
     ⊎_elim
     (λ (o : is_plain b ≡ true). plain_or_odd b a text q r o p f e)
-    (λ (o : is_plain b ≡ false). no_truth (sym (cond_false (is_plain b) test false o) ∙ second))
+    (λ (o : is_plain b ≡ false). false≢true (sym (cond_false (is_plain b) test false o) ∙ second))
     (cases_Bool (is_plain b)))
     (cases_Bool (is_plain a))
 
@@ -266,12 +265,12 @@ same_kind_clash (slot.Mark code) (slot.Mark other) h k x y item d e f =
     not_same code other d (mark_code code other (sym (put_mark h x code item e) ∙ put_mark k y other item f))
 same_kind_clash (slot.Name name) (slot.Name other) h k x y item d e f =
     let both = lower_same (name_text name) (name_text other) (sym (same_lower (text_of item) (name_text name) (put_name h x name item e)) ∙ same_lower (text_of item) (name_text other) (put_name k y other item f)) in
-    no_truth (sym (ap not both) ∙ d)
+    false≢true (sym (ap not both) ∙ d)
 same_kind_clash (slot.Register letter) (slot.Register other) h k x y item d e f =
     let one = put_register h x letter item e in
     let two = put_register k y other item f in
     letters_clash letter other (text_of item) one.register two.register d one.found two.found
-same_kind_clash _ _ h k x y item d e f = no_truth d
+same_kind_clash _ _ h k x y item d e f = false≢true d
 
 slots_clash : (a b : Slot) (h k x y : Held) (item : Item) → slots_differ a b ≡ true → put h a item ≡ Some x → put k b item ≡ Some y → ⊥
 slots_clash a b h k x y item d e f =
@@ -287,7 +286,7 @@ Fitting (s ∷ slots) [] = ⊥
 Fitting (s ∷ slots) (item ∷ items) = ((held : Held) × (next : Held) × (put held s item ≡ Some next)) × Fitting slots items
 
 fitting_clash : (first second : List Slot) (items : List Item) → spellings_differ first second ≡ true → Fitting first items → Fitting second items → ⊥
-fitting_clash [] [] items d f g = no_truth d
+fitting_clash [] [] items d f g = false≢true d
 fitting_clash [] (b ∷ bs) [] d f g = g
 fitting_clash [] (b ∷ bs) (item ∷ items) d f g = f
 fitting_clash (a ∷ rest) [] [] d f g = f
@@ -361,15 +360,11 @@ rows_clash row other text items helds others d e f =
     (sym (cond_true (str_eq_ignore_ascii_case (mnemonic_text row) (mnemonic_text other)) (spellings_differ (row_slots row) (row_slots other)) true named) ∙ d)
     (fill_fitting row items helds one.filled) (fill_fitting other items others two.filled)
 
-pub both_true : (a b : Bool) → cond a b false ≡ true → (a ≡ true) × (b ≡ true)
-both_true true b e = (refl, e)
-both_true false b e = absurd cc
-
 differs_at : (row : Row) (rows : List Row) (k : ℕ) (other : Row) → differs_from row rows ≡ true → slice_get rows k ≡ Some other → rows_differ row other ≡ true
 differs_at row [] k other d at = absurd cc
 differs_at row (r ∷ rows) zero other d at =
-    subst (λ v. rows_differ row v ≡ true) (same_Some r other at) (both_true (rows_differ row r) (differs_from row rows) d).0
-differs_at row (r ∷ rows) (suc k) other d at = differs_at row rows k other (both_true (rows_differ row r) (differs_from row rows) d).1 at
+    subst (λ v. rows_differ row v ≡ true) (same_Some r other at) (then_parts (rows_differ row r) (differs_from row rows) d).0
+differs_at row (r ∷ rows) (suc k) other d at = differs_at row rows k other (then_parts (rows_differ row r) (differs_from row rows) d).1 at
 
 pub none_or_some : {A : Type 0} (o : Option A) → (o ≡ None) ⊎ ((x : A) × (o ≡ Some x))
 none_or_some None = inl refl
@@ -385,7 +380,7 @@ fit_is_found form (r ∷ rows) zero row text items helds d at fit =
     let same : form ≡ form + 0 = omega arith in
     ap (λ o. fit_or form o (fit_from (form + 1) rows text items)) here ∙ ap (λ n. Some (record { form = n; helds = helds })) same
 fit_is_found form (r ∷ rows) (suc k) row text items helds d at fit =
-    let parts = both_true (differs_from r rows) (all_differ rows) d in
+    let parts = then_parts (differs_from r rows) (all_differ rows) d in
     let none : fit_row text items r ≡ None =
     ⊎_elim (λ e. e) (λ found. absurd (rows_clash r row text items found.0 helds (differs_at r rows k row parts.0 at) found.1 fit)) (none_or_some (fit_row text items r)) in
     let later = fit_is_found (form + 1) rows k row text items helds parts.1 at fit in

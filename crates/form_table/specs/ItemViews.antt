@@ -13,12 +13,14 @@ use Rattle.form_table.specs.declared.items.Found as found
 abbrev pub lexemes : List Token → List Lexeme
 lexemes tokens = map token_value tokens
 
+-- an item as a value of the definitions
 abbrev pub item_value : code.Item → Item
 item_value variant.Gap = blank
 item_value (variant.Mark c) = mark c
 item_value (variant.Word w) = word w.now
 item_value (variant.Number n) = numeral n
 
+-- a number that was found, as such a value
 abbrev pub found_value : found.Found → spec.Found
 found_value f = record { count = f.count; negative = f.negative; value = f.value }
 

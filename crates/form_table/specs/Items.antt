@@ -1,10 +1,10 @@
--- The items of an instruction's spelling: what its tokens are, with the blanks that count. Source: operands of GNU as, where
--- `#` may be left out before a number; which blanks count is this project's own rule.
-use Rattle.std.specs.Prelude.{ℕ, ℤ, pos, ◌-ℤ◌, ◌+◌, ◌-◌, ◌==◌, ◌||◌, Bool, true, false, not, zero, suc, nat_le, List, [], ◌∷◌, ◌++◌, length, slice_index, Option, None, Some, if◌then◌else◌}
-use Rattle.sl_model.specs.declared.text.TokenKind.{TokenKind}
-use Rattle.sl_model.specs.declared.text.TokenKind.TheVariants as kind
+-- The items of an instruction's spelling: what its tokens are, with the blanks that count.
+-- Source: operands of GNU as, where `#` may be left out before a number; which blanks
+-- count is this project's own rule.
+use Rattle.std.specs.Prelude.{ℕ, ℤ, pos, ◌-ℤ◌, ◌+◌, ◌-◌, ◌==◌, ◌||◌, Bool, true, false, not, zero, suc, List, [], ◌∷◌, ◌++◌, Option, None, Some, if◌then◌else◌}
 use Rattle.sl_model.specs.Token.{Lexeme}
-use Rattle.form_table.specs.Chain.{◌>>=◌}
+use Rattle.sl_model.specs.TokenTests.{is_word, is_number, is_mark, code_of, marks, touches}
+use Rattle.sl_model.specs.OptionSteps.{◌>>=◌}
 use Rattle.form_table.specs.Numerals.{number_value}
 
 -- An item: a blank that counts, a mark by its code, a word, or a number with its sign.
@@ -14,45 +14,20 @@ pub data Item : Type 0 where
   word : List ℕ → Item
   numeral : ℤ → Item
 
-abbrev pub is_word : TokenKind → Bool
-is_word kind.Word = true
-is_word kind.Number = false
-is_word kind.Mark = false
-is_word kind.Comment = false
-
-abbrev pub is_number : TokenKind → Bool
-is_number kind.Word = false
-is_number kind.Number = true
-is_number kind.Mark = false
-is_number kind.Comment = false
-
-abbrev pub is_mark : TokenKind → Bool
-is_mark kind.Word = false
-is_mark kind.Number = false
-is_mark kind.Mark = true
-is_mark kind.Comment = false
-
--- the code of a mark
-abbrev pub code_of : Lexeme → ℕ
-code_of token = slice_index token.text 0
-
--- Is a token this mark?
-abbrev pub marks : ℕ → Lexeme → Bool
-marks code token = if is_mark token.kind then code_of token == code else false
-
--- Does a token stand directly behind another?
-abbrev pub touches : Lexeme → Lexeme → Bool
-touches before token = nat_le token.start (before.start + length before.text)
-
 -- Is a token one of `,`, `[`, `]` and `!`, beside which blanks are free?
 abbrev pub is_free : Lexeme → Bool
-is_free token = if is_mark token.kind then (code_of token == 44 || code_of token == 91) || (code_of token == 93 || code_of token == 33) else false
+is_free token =
+    if is_mark token.kind
+    then (code_of token == 44 || code_of token == 91) || (code_of token == 93 || code_of token == 33)
+    else false
 
 -- Does a blank that counts stand between two tokens?
 abbrev pub is_apart : Lexeme → Lexeme → Bool
-is_apart before token = if touches before token then false else (if is_free before then false else not (is_free token))
+is_apart before token =
+    if touches before token then false else (if is_free before then false else not (is_free token))
 
--- a number with the tokens before it that belong to it: how many tokens they are, its sign and its value
+-- a number with the tokens before it that belong to it: how many tokens
+-- they are, its sign and its value
 pub record Found : Type 0 where
   pub count : ℕ
   pub negative : Bool
@@ -86,18 +61,23 @@ found_number (token ∷ tokens) = if marks 35 token then (do
   found ← signed_number behind
   Some (record { count = found.count + 1; negative = found.negative; value = found.value })) else signed_number (token ∷ tokens)
 
+-- the number itself, with its sign
 abbrev pub number_of : Found → ℤ
 number_of found = if found.negative then pos 0 -ℤ pos found.value else pos found.value
 
 -- a token that begins no number
 abbrev pub token_item : Lexeme → Item
-token_item token = if is_word token.kind then word token.text else (if is_number token.kind then word token.text else mark (code_of token))
+token_item token =
+    if is_word token.kind then word token.text
+    else (if is_number token.kind then word token.text else mark (code_of token))
 
--- the item that tokens begin with, and how many tokens it is
+-- the number that tokens begin with, as an item, or the item of their first
+-- token; and how many tokens it is
 abbrev pub item_or : Option Found → Lexeme → Item × ℕ
 item_or None token = (token_item token, 1)
 item_or (Some found) token = (numeral (number_of found), found.count)
 
+-- the item that tokens begin with, and how many tokens it is
 unfoldable pub first_item : List Lexeme → Item × ℕ
 first_item [] = (blank, 1)
 first_item (token ∷ tokens) = item_or (found_number (token ∷ tokens)) token
@@ -111,7 +91,8 @@ behind_blank false item = item ∷ []
 abbrev pub items_at : Lexeme → ℕ → List Lexeme → List Item
 items_at before taken [] = []
 items_at before (suc taken) (token ∷ tokens) = []
-items_at before zero (token ∷ tokens) = behind_blank (is_apart before token) (first_item (token ∷ tokens)).0
+items_at before zero (token ∷ tokens) =
+    behind_blank (is_apart before token) (first_item (token ∷ tokens)).0
 
 -- how many tokens behind it belong to the same item
 abbrev pub taken_behind : ℕ → List Lexeme → ℕ
@@ -121,4 +102,6 @@ taken_behind zero tokens = (first_item tokens).1 - 1
 -- the items of the tokens behind one, of which so many belong to the item before
 unfoldable pub items_from : Lexeme → ℕ → List Lexeme → List Item
 items_from before taken [] = []
-items_from before taken (token ∷ tokens) = items_at before taken (token ∷ tokens) ++ items_from token (taken_behind taken (token ∷ tokens)) tokens
+items_from before taken (token ∷ tokens) =
+    items_at before taken (token ∷ tokens)
+    ++ items_from token (taken_behind taken (token ∷ tokens)) tokens

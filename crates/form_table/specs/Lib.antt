@@ -1,4 +1,3 @@
-pub mod Chain
 pub mod Rows
 pub mod Numerals
 pub mod Items

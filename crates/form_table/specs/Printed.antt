@@ -1,5 +1,6 @@
--- The one printed spelling of an instruction, over any table of rows. Source: this project's own choice among the spellings that
--- GNU as takes: lower case, `#` before a number, a blank behind each comma.
+-- The one printed spelling of an instruction, over any table of rows. Source: this
+-- project's own choice among the spellings that GNU as takes: lower case, `#` before a
+-- number, a blank behind each comma.
 use Rattle.std.specs.Prelude.{ℕ, ℤ, pos, ◌+◌, ◌==◌, Bool, true, false, List, [], ◌∷◌, ◌++◌, codes, slice_get, slice_index_or, unsigned_abs, Option, None, Some, if◌then◌else◌}
 use Rattle.std.specs.Fmt.{decimal, signed_decimal}
 use Rattle.sl_model.specs.declared.register.Bank.{Bank}
@@ -29,18 +30,24 @@ is_stack bank.Stack = true
 
 -- a register that is spelled with a letter, in lower case
 unfoldable pub register_name : Letter → Reg → List ℕ
-register_name letter.X r = if is_stack r.bank then codes "sp" else (if r.number == 31 then codes "xzr" else 120 ∷ decimal r.number)
+register_name letter.X r =
+    if is_stack r.bank then codes "sp"
+    else (if r.number == 31 then codes "xzr" else 120 ∷ decimal r.number)
 register_name letter.W r = if r.number == 31 then codes "wzr" else 119 ∷ decimal r.number
 register_name letter.V r = 118 ∷ decimal r.number
 register_name letter.Q r = 113 ∷ decimal r.number
 register_name letter.D r = 100 ∷ decimal r.number
 register_name letter.S r = 115 ∷ decimal r.number
-register_name letter.R r = if is_stack r.bank then codes "sp" else (if r.number == 14 then codes "lr" else 114 ∷ decimal r.number)
+register_name letter.R r =
+    if is_stack r.bank then codes "sp"
+    else (if r.number == 14 then codes "lr" else 114 ∷ decimal r.number)
 
+-- what is printed of the register that an operand holds, if it holds one
 abbrev pub register_text : Letter → Option Reg → List ℕ
 register_text letter None = []
 register_text letter (Some r) = register_name letter r
 
+-- what is printed of its number, if it holds one
 abbrev pub number_text : Option ℤ → List ℕ
 number_text None = []
 number_text (Some n) = signed_decimal n
@@ -91,47 +98,60 @@ has_number (shape.Base letter) = false
 has_number (shape.Offset letter) = true
 has_number (shape.Before letter) = true
 
+-- 1 where something holds, else 0
 abbrev pub one_if : Bool → ℕ
 one_if false = 0
 one_if true = 1
 
--- Is an operand's register found among the outputs, and is it found among the inputs?
+-- Is an operand's register found among the outputs?
 abbrev pub among_outs : Operand → Bool
-among_outs operand = if has_register operand.shape then is_picked pick.Written operand.role else false
+among_outs operand =
+    if has_register operand.shape then is_picked pick.Written operand.role else false
 
+-- Is it found among the inputs?
 abbrev pub among_ins : Operand → Bool
 among_ins operand = if has_register operand.shape then is_picked pick.Read operand.role else false
 
 -- the register of an operand
 abbrev pub register_in : Instr → Operand → ℕ → ℕ → Option Reg
 register_in i operand ins outs =
-    if among_outs operand then slice_index_or i.outs outs None else (if among_ins operand then slice_index_or i.ins ins None else None)
+    if among_outs operand then slice_index_or i.outs outs None
+    else (if among_ins operand then slice_index_or i.ins ins None else None)
 
 -- its number
 abbrev pub number_in : Instr → Operand → ℕ → Option ℤ
-number_in i operand numbers = if has_number operand.shape then Some (slice_index_or i.imms numbers (pos 0)) else None
+number_in i operand numbers =
+    if has_number operand.shape then Some (slice_index_or i.imms numbers (pos 0)) else None
 
--- what an operand of an instruction holds, where so many inputs, outputs and numbers stand before it
+-- what an operand of an instruction holds, where so many inputs,
+-- outputs and numbers stand before it
 unfoldable pub held_in : Instr → Operand → ℕ → ℕ → ℕ → Held
-held_in i operand ins outs numbers = record { register = register_in i operand ins outs; number = number_in i operand numbers }
+held_in i operand ins outs numbers = record {
+  register = register_in i operand ins outs;
+  number = number_in i operand numbers;
+}
 
 -- what the operands of an instruction hold
 unfoldable pub helds_in : Instr → List Operand → ℕ → ℕ → ℕ → List Held
 helds_in i [] ins outs numbers = []
 helds_in i (operand ∷ operands) ins outs numbers =
     held_in i operand ins outs numbers
-    ∷ helds_in i operands (ins + one_if (among_ins operand)) (outs + one_if (among_outs operand)) (numbers + one_if (has_number operand.shape))
+    ∷ helds_in i operands (ins + one_if (among_ins operand)) (outs + one_if (among_outs operand))
+    (numbers + one_if (has_number operand.shape))
 
--- what is printed for operands that hold these, the first of them behind a slot and each other one behind a comma
+-- what is printed for operands that hold these, the first of them behind a slot
+-- and each other one behind a comma
 unfoldable pub operands_text : Slot → List Operand → List Held → List ℕ
 operands_text lead [] helds = []
 operands_text lead (operand ∷ operands) [] = []
-operands_text lead (operand ∷ operands) (held ∷ helds) = slots_text held (slots_of lead operand.shape) ++ operands_text comma operands helds
+operands_text lead (operand ∷ operands) (held ∷ helds) =
+    slots_text held (slots_of lead operand.shape) ++ operands_text comma operands helds
 
 -- what is printed for a row whose operands hold these
 unfoldable pub row_text : Row → List Held → List ℕ
 row_text row helds = mnemonic_text row ++ operands_text slot.Gap (row_operands row) helds
 
+-- an instruction as it is printed by a row, if there is one
 abbrev pub row_printed : Option Row → Instr → List ℕ
 row_printed None i = []
 row_printed (Some row) i = row_text row (helds_in i (row_operands row) 0 0 0)

@@ -1,5 +1,6 @@
--- The rows of instruction tables: how operands are spelled, as lists of slots. Source: the words and operands of Arm's
--- assembler language, DDI 0487, C1.2; rows and slots are this project's own format.
+-- The rows of instruction tables: how operands are spelled, as lists of slots. Source:
+-- the words and operands of Arm's assembler language, DDI 0487, C1.2; rows and slots
+-- are this project's own format.
 use Rattle.std.specs.Prelude.{ℕ, Bool, not, ◌==◌, List, [], ◌∷◌, ◌++◌, codes, take}
 use Rattle.std.specs.List.{prefix_len}
 use Rattle.form_table.specs.declared.rows.Letter.TheVariants.{V}
@@ -34,6 +35,7 @@ name_text LaneD = codes "d"
 abbrev pub row_operands : Row → List Operand
 row_operands row = row.first ∷ row.second ∷ row.third ∷ row.fourth ∷ row.fifth ∷ []
 
+-- Is a byte of a mnemonic a letter of it, and not one of the zeros behind it?
 abbrev pub is_letter : ℕ → Bool
 is_letter c = not (c == 0)
 
@@ -49,12 +51,19 @@ slots_of lead shape.Number = lead ∷ slot.Number ∷ []
 slots_of lead shape.Condition = lead ∷ slot.Condition ∷ []
 slots_of lead (shape.Shift name) = lead ∷ slot.Name name ∷ slot.Gap ∷ slot.Number ∷ []
 slots_of lead (shape.Lanes name) = lead ∷ slot.Register V ∷ slot.Mark 46 ∷ slot.Name name ∷ []
-slots_of lead (shape.Lane name) = lead ∷ slot.Register V ∷ slot.Mark 46 ∷ slot.Name name ∷ slot.Mark 91 ∷ slot.Index ∷ slot.Mark 93 ∷ []
+slots_of lead (shape.Lane name) =
+    lead ∷ slot.Register V ∷ slot.Mark 46 ∷ slot.Name name ∷ slot.Mark 91 ∷ slot.Index
+    ∷ slot.Mark 93 ∷ []
 slots_of lead (shape.Base letter) = lead ∷ slot.Mark 91 ∷ slot.Register letter ∷ slot.Mark 93 ∷ []
-slots_of lead (shape.Offset letter) = lead ∷ slot.Mark 91 ∷ slot.Register letter ∷ slot.Mark 44 ∷ slot.Number ∷ slot.Mark 93 ∷ []
-slots_of lead (shape.Before letter) = lead ∷ slot.Mark 91 ∷ slot.Register letter ∷ slot.Mark 44 ∷ slot.Number ∷ slot.Mark 93 ∷ slot.Mark 33 ∷ []
+slots_of lead (shape.Offset letter) =
+    lead ∷ slot.Mark 91 ∷ slot.Register letter ∷ slot.Mark 44 ∷ slot.Number ∷ slot.Mark 93 ∷ []
+slots_of lead (shape.Before letter) =
+    lead ∷ slot.Mark 91 ∷ slot.Register letter ∷ slot.Mark 44 ∷ slot.Number ∷ slot.Mark 93
+    ∷ slot.Mark 33 ∷ []
 
 -- the slots of a row's operands: a blank stands before the first one, and a comma before each other
 abbrev pub row_slots : Row → List Slot
-row_slots row = slots_of slot.Gap row.first.shape ++ (slots_of (slot.Mark 44) row.second.shape ++ (slots_of (slot.Mark 44) row.third.shape
+row_slots row =
+    slots_of slot.Gap row.first.shape
+    ++ (slots_of (slot.Mark 44) row.second.shape ++ (slots_of (slot.Mark 44) row.third.shape
     ++ (slots_of (slot.Mark 44) row.fourth.shape ++ slots_of (slot.Mark 44) row.fifth.shape)))

@@ -1,12 +1,13 @@
--- What the operands of a row hold where its slots take the items of a line. Source: the names of registers and conditions are those of
--- DDI 0487, C1.2, and where they are spelled with `r` those of DDI 0403; letters of either case, as GNU as takes them.
+-- What the operands of a row hold where its slots take the items of a line. Source: the names of
+-- registers and conditions are those of DDI 0487, C1.2, and where they are spelled with `r` those
+-- of DDI 0403; letters of either case, as GNU as takes them.
 use Rattle.std.specs.Prelude.{ℕ, ℤ, pos, ◌+◌, ◌==◌, Bool, true, false, nat_lt, List, [], ◌∷◌, codes, Option, None, Some, if◌then◌else◌}
 use Rattle.std.specs.Char.{to_ascii_lowercase}
 use Rattle.std.specs.Str.{str_eq_ignore_ascii_case}
 use Rattle.sl_model.specs.declared.register.Bank.{Bank}
 use Rattle.sl_model.specs.declared.register.Bank.TheVariants.{General, Vector, Stack}
 use Rattle.sl_model.specs.declared.register.Reg.{Reg}
-use Rattle.form_table.specs.Chain.{◌>>=◌}
+use Rattle.sl_model.specs.OptionSteps.{◌>>=◌}
 use Rattle.form_table.specs.Numerals.{decimal_value}
 use Rattle.form_table.specs.Items.{Item, blank, mark, word, numeral}
 use Rattle.form_table.specs.Rows.{name_text, slots_of}
@@ -41,20 +42,25 @@ unless_r13 (Some r) = if r.number == 13 then None else Some r
 unfoldable pub register_of : Letter → List ℕ → Option Reg
 register_of letter.X text =
     if str_eq_ignore_ascii_case text (codes "xzr") then Some (machine_reg General 31)
-    else (if str_eq_ignore_ascii_case text (codes "sp") then Some (machine_reg Stack 0) else numbered General 120 31 text)
-register_of letter.W text = if str_eq_ignore_ascii_case text (codes "wzr") then Some (machine_reg General 31) else numbered General 119 31 text
+    else (if str_eq_ignore_ascii_case text (codes "sp") then Some (machine_reg Stack 0)
+    else numbered General 120 31 text)
+register_of letter.W text =
+    if str_eq_ignore_ascii_case text (codes "wzr") then Some (machine_reg General 31)
+    else numbered General 119 31 text
 register_of letter.V text = numbered Vector 118 32 text
 register_of letter.Q text = numbered Vector 113 32 text
 register_of letter.D text = numbered Vector 100 32 text
 register_of letter.S text = numbered Vector 115 32 text
 register_of letter.R text =
     if str_eq_ignore_ascii_case text (codes "lr") then Some (machine_reg General 14)
-    else (if str_eq_ignore_ascii_case text (codes "sp") then Some (machine_reg Stack 0) else unless_r13 (numbered General 114 15 text))
+    else (if str_eq_ignore_ascii_case text (codes "sp") then Some (machine_reg Stack 0)
+    else unless_r13 (numbered General 114 15 text))
 
 -- the conditions on flags by their numbers: each odd one is the opposite of the one before it
 abbrev pub condition_names : List (List ℕ)
 condition_names =
-    codes "eq" ∷ codes "ne" ∷ codes "cs" ∷ codes "cc" ∷ codes "mi" ∷ codes "pl" ∷ codes "vs" ∷ codes "vc" ∷ codes "hi" ∷ codes "ls"
+    codes "eq" ∷ codes "ne" ∷ codes "cs" ∷ codes "cc" ∷ codes "mi" ∷ codes "pl" ∷ codes "vs"
+    ∷ codes "vc" ∷ codes "hi" ∷ codes "ls"
     ∷ codes "ge" ∷ codes "lt" ∷ codes "gt" ∷ codes "le" ∷ []
 
 -- the place of a name among others, counted from 0, in letters of either case
@@ -68,30 +74,35 @@ name_place (name ∷ names) text = if str_eq_ignore_ascii_case text name then So
 unfoldable pub condition_of : List ℕ → Option ℕ
 condition_of text =
     if str_eq_ignore_ascii_case text (codes "hs") then Some 2
-    else (if str_eq_ignore_ascii_case text (codes "lo") then Some 3 else name_place condition_names text)
+    else (if str_eq_ignore_ascii_case text (codes "lo") then Some 3
+    else name_place condition_names text)
 
 -- an operand without register and number
 abbrev pub empty : Held
 empty = record { register = None; number = None }
 
+-- the text of an item that is a word
 abbrev pub word_in : Item → Option (List ℕ)
 word_in blank = None
 word_in (mark c) = None
 word_in (word text) = Some text
 word_in (numeral n) = None
 
+-- the number of an item that is one
 abbrev pub number_in : Item → Option ℤ
 number_in blank = None
 number_in (mark c) = None
 number_in (word text) = None
 number_in (numeral n) = Some n
 
+-- Is an item a blank?
 abbrev pub is_gap : Item → Bool
 is_gap blank = true
 is_gap (mark c) = false
 is_gap (word text) = false
 is_gap (numeral n) = false
 
+-- Is an item the mark with this code?
 abbrev pub is_mark_of : ℕ → Item → Bool
 is_mark_of code blank = false
 is_mark_of code (mark c) = c == code

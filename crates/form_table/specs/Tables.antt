@@ -1,5 +1,5 @@
--- Tests of tables, which the checker computes: no two rows fit the same words, and what is printed is read again. Source: this
--- project's own; nothing of them is Arm's.
+-- Tests of tables, which the checker computes: no two rows fit the same words, and what is printed
+-- is read again. Source: this project's own; nothing of them is Arm's.
 use Rattle.std.specs.Prelude.{ℕ, pos, ◌+◌, ◌^◌, zero, suc, ◌==◌, Bool, true, false, not, int_le, nat_le, nat_lt, unsigned_abs, List, [], ◌∷◌, slice_get, Option, None, Some, if◌then◌else◌}
 use Rattle.std.specs.List.{list_all}
 use Rattle.std.specs.Str.{bytes_eq, str_eq_ignore_ascii_case}
@@ -49,15 +49,19 @@ is_plain letter.S = true
 
 -- Is no word a register of both spellings? One of them is plain.
 abbrev pub letters_differ : Letter → Letter → Bool
-letters_differ a b = if is_plain a then not (letter_code a == letter_code b) else (if is_plain b then not (letter_code a == letter_code b) else false)
+letters_differ a b =
+    if is_plain a then not (letter_code a == letter_code b)
+    else (if is_plain b then not (letter_code a == letter_code b) else false)
 
 -- Do two slots of one kind take no common item, as far as this test sees?
 abbrev pub same_kind_differ : Slot → Slot → Bool
 same_kind_differ (slot.Mark code) (slot.Mark other) = not (code == other)
-same_kind_differ (slot.Name name) (slot.Name other) = not (str_eq_ignore_ascii_case (name_text name) (name_text other))
+same_kind_differ (slot.Name name) (slot.Name other) =
+    not (str_eq_ignore_ascii_case (name_text name) (name_text other))
 same_kind_differ (slot.Register letter) (slot.Register other) = letters_differ letter other
 same_kind_differ _ _ = false
 
+-- Do two slots take no common item, as far as this test sees?
 abbrev pub slots_differ : Slot → Slot → Bool
 slots_differ a b = if slot_kind a == slot_kind b then same_kind_differ a b else true
 
@@ -68,8 +72,12 @@ spellings_differ [] (b ∷ bs) = true
 spellings_differ (a ∷ rest) [] = true
 spellings_differ (a ∷ rest) (b ∷ bs) = if slots_differ a b then true else spellings_differ rest bs
 
+-- Do no words fit both of two rows?
 abbrev pub rows_differ : Row → Row → Bool
-rows_differ row other = if str_eq_ignore_ascii_case (mnemonic_text row) (mnemonic_text other) then spellings_differ (row_slots row) (row_slots other) else true
+rows_differ row other =
+    if str_eq_ignore_ascii_case (mnemonic_text row) (mnemonic_text other)
+    then spellings_differ (row_slots row) (row_slots other)
+    else true
 
 -- Does a row differ from each of others?
 abbrev pub differs_from : Row → List Row → Bool
@@ -97,6 +105,7 @@ same_slot slot.Index slot.Index = true
 same_slot slot.Condition slot.Condition = true
 same_slot _ _ = false
 
+-- Are two lists of slots the same?
 abbrev pub same_slots : List Slot → List Slot → Bool
 same_slots [] [] = true
 same_slots [] (b ∷ bs) = false
@@ -112,15 +121,18 @@ abbrev pub same_spellings : List Operand → List Operand → Bool
 same_spellings [] [] = true
 same_spellings [] (b ∷ bs) = false
 same_spellings (a ∷ operands) [] = false
-same_spellings (a ∷ operands) (b ∷ bs) = if same_spelling a.shape b.shape then same_spellings operands bs else false
+same_spellings (a ∷ operands) (b ∷ bs) =
+    if same_spelling a.shape b.shape then same_spellings operands bs else false
 
 -- Are they, but for the one at a place, which has no register, and which the other row hasn't?
 abbrev pub same_without : ℕ → List Operand → List Operand → Bool
 same_without place [] bs = false
 same_without place (a ∷ operands) [] = false
 same_without zero (a ∷ operands) (b ∷ bs) =
-    if has_register a.shape then false else (if same_spelling shape.Nothing b.shape then same_spellings operands bs else false)
-same_without (suc place) (a ∷ operands) (b ∷ bs) = if same_spelling a.shape b.shape then same_without place operands bs else false
+    if has_register a.shape then false
+    else (if same_spelling shape.Nothing b.shape then same_spellings operands bs else false)
+same_without (suc place) (a ∷ operands) (b ∷ bs) =
+    if same_spelling a.shape b.shape then same_without place operands bs else false
 
 -- the operands of a row, the first of them twice, without the last
 abbrev pub twice_operands : Row → List Operand
@@ -133,12 +145,17 @@ is_own (alias.As form) = false
 is_own (alias.Repeat form) = false
 is_own (alias.ZeroAs form place) = false
 
--- Keeps the row that is named by another row's alias its own spelling, and takes it what that alias leaves?
+-- Keeps the row that is named by another row's alias its own spelling, and
+-- takes it what that alias leaves?
 abbrev pub is_kept_by : Row → Alias → Row → Bool
 is_kept_by row alias.Own target = true
-is_kept_by row (alias.As form) target = if is_own target.alias then same_spellings (row_operands row) (row_operands target) else false
-is_kept_by row (alias.Repeat form) target = if is_own target.alias then same_spellings (twice_operands row) (row_operands target) else false
-is_kept_by row (alias.ZeroAs form place) target = if is_own target.alias then same_without place (row_operands row) (row_operands target) else false
+is_kept_by row (alias.As form) target =
+    if is_own target.alias then same_spellings (row_operands row) (row_operands target) else false
+is_kept_by row (alias.Repeat form) target =
+    if is_own target.alias then same_spellings (twice_operands row) (row_operands target) else false
+is_kept_by row (alias.ZeroAs form place) target =
+    if is_own target.alias then same_without place (row_operands row) (row_operands target)
+    else false
 
 -- the same where the row may be missing
 abbrev pub is_kept_at : Row → Alias → Option Row → Bool
@@ -150,7 +167,8 @@ abbrev pub has_kept : List Row → Row → Alias → Bool
 has_kept table row alias.Own = true
 has_kept table row (alias.As form) = is_kept_at row (alias.As form) (slice_get table form)
 has_kept table row (alias.Repeat form) = is_kept_at row (alias.Repeat form) (slice_get table form)
-has_kept table row (alias.ZeroAs form place) = is_kept_at row (alias.ZeroAs form place) (slice_get table form)
+has_kept table row (alias.ZeroAs form place) =
+    is_kept_at row (alias.ZeroAs form place) (slice_get table form)
 
 -- Names each of some rows a row of the table that keeps its spelling?
 abbrev pub all_kept : List Row → List Row → Bool
@@ -179,24 +197,28 @@ is_spelled operand =
     else false)
     else false
 
+-- Are those of all operands?
 abbrev pub all_spelled : List Operand → Bool
 all_spelled [] = true
 all_spelled (operand ∷ operands) = if is_spelled operand then all_spelled operands else false
 
--- how many operands are found among the inputs, how many among the outputs, and how many have numbers
+-- how many operands are found among the inputs
 abbrev pub count_ins : List Operand → ℕ
 count_ins [] = 0
 count_ins (operand ∷ operands) = one_if (among_ins operand) + count_ins operands
 
+-- how many among the outputs
 abbrev pub count_outs : List Operand → ℕ
 count_outs [] = 0
 count_outs (operand ∷ operands) = one_if (among_outs operand) + count_outs operands
 
+-- how many of them have numbers
 abbrev pub count_numbers : List Operand → ℕ
 count_numbers [] = 0
 count_numbers (operand ∷ operands) = one_if (has_number operand.shape) + count_numbers operands
 
--- Is a row's mnemonic a word, are its numbers spelled, and are there places for all that its operands have?
+-- Is a row's mnemonic a word, are its numbers spelled, and are there places
+-- for all that its operands have?
 abbrev pub is_row : Row → Bool
 is_row row =
     if is_word_text (mnemonic_text row) then
@@ -208,13 +230,16 @@ is_row row =
     else false)
     else false
 
+-- Do all rows pass this test?
 abbrev pub all_rows : List Row → Bool
 all_rows [] = true
 all_rows (row ∷ rows) = if is_row row then all_rows rows else false
 
--- Do no words fit two rows, and is what is printed of an instruction that was read read as the same again?
+-- Do no words fit two rows, and is what is printed of an instruction that
+-- was read read as the same again?
 abbrev pub is_table : List Row → Bool
-is_table table = if all_differ table then (if all_kept table table then all_rows table else false) else false
+is_table table =
+    if all_differ table then (if all_kept table table then all_rows table else false) else false
 
 -- Does an operand begin with another thing than a bracket? Only then the blank before it counts.
 abbrev pub is_led : Shape → Bool
@@ -229,6 +254,7 @@ is_led (shape.Base letter) = false
 is_led (shape.Offset letter) = false
 is_led (shape.Before letter) = false
 
+-- Does the first operand of each row begin so?
 abbrev pub all_led : List Row → Bool
 all_led [] = true
 all_led (row ∷ rows) = if is_led row.first.shape then all_led rows else false

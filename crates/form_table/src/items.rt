@@ -31,41 +31,13 @@ struct Found {
     value: u64,
 }
 
-// The code of a mark.
-fn code_of(token: &Token<'_>) -> u8
-    ensures { result ≡ spec.code_of (token_value token.now) }
-{
-    let bytes = token.text.as_bytes();
-    if bytes.is_empty() {
-        return 0;
-    }
-    bytes[0]
-}
-
-// Whether a token is this mark.
-pub(crate) fn is_mark(code: u8, token: &Token<'_>) -> bool
-    ensures { result ≡ spec.marks code (token_value token.now) }
-{
-    match token.kind {
-        TokenKind::Mark => code_of(token) == code,
-        _ => false,
-    }
-}
-
-// Whether a token stands directly behind another.
-pub(crate) fn is_touching(before: &Token<'_>, token: &Token<'_>) -> bool
-    ensures { result ≡ spec.touches (token_value before.now) (token_value token.now) }
-{
-    token.start as usize <= before.start as usize + before.text.len()
-}
-
 // Whether blanks are free beside a token.
 fn is_free(token: &Token<'_>) -> bool
     ensures { result ≡ spec.is_free (token_value token.now) }
 {
     match token.kind {
         TokenKind::Mark => {
-            let code = code_of(token);
+            let code = token.code();
             (code == b',' || code == b'[') || (code == b']' || code == b'!')
         }
         _ => false,
@@ -76,7 +48,7 @@ fn is_free(token: &Token<'_>) -> bool
 fn is_apart(before: &Token<'_>, token: &Token<'_>) -> bool
     ensures { result ≡ spec.is_apart (token_value before.now) (token_value token.now) }
 {
-    if is_touching(before, token) {
+    if token.touches(before) {
         return false;
     }
     if is_free(before) {
@@ -87,10 +59,13 @@ fn is_apart(before: &Token<'_>, token: &Token<'_>) -> bool
 
 // Whether the first of some tokens stands directly behind a token.
 fn is_attached(before: &Token<'_>, tokens: &[Token<'_>]) -> Option<()>
-    ensures { MatchOption result (spec.attached (token_value before.now) (lexemes tokens.now) ≡ None) (λ u. spec.attached (token_value before.now) (lexemes tokens.now) ≡ Some (lexemes tokens.now)) }
+    ensures { MatchOption result
+        (spec.attached (token_value before.now) (lexemes tokens.now) ≡ None)
+        (λ u. spec.attached (token_value before.now) (lexemes tokens.now)
+        ≡ Some (lexemes tokens.now)) }
 {
     let (token, _) = tokens.split_first()?;
-    if is_touching(before, token) {
+    if token.touches(before) {
         return Some(());
     }
     None
@@ -121,7 +96,7 @@ fn signed_number(tokens: &[Token<'_>]) -> Option<Found>
     ensures small { IfSome result (λ f. (f.value ≤ 2 ^ 32) × (1 ≤ f.count) × (f.count ≤ 2)) }
 {
     let (token, rest) = tokens.split_first()?;
-    if !is_mark(b'-', token) {
+    if !token.is_mark(b'-') {
         return plain_number(tokens);
     }
     is_attached(token, rest)?;
@@ -140,7 +115,7 @@ fn found_number(tokens: &[Token<'_>]) -> Option<Found>
     ensures small { IfSome result (λ f. (f.value ≤ 2 ^ 32) × (1 ≤ f.count) × (f.count ≤ 3)) }
 {
     let (token, rest) = tokens.split_first()?;
-    if !is_mark(b'#', token) {
+    if !token.is_mark(b'#') {
         return signed_number(tokens);
     }
     is_attached(token, rest)?;
@@ -171,7 +146,7 @@ fn token_item<'a>(token: &Token<'a>) -> Item<'a>
     match token.kind {
         TokenKind::Word => Item::Word(token.text),
         TokenKind::Number => Item::Word(token.text),
-        _ => Item::Mark(code_of(token)),
+        _ => Item::Mark(token.code()),
     }
 }
 
@@ -193,7 +168,9 @@ fn first_item<'a>(tokens: &[Token<'a>]) -> (Item<'a>, usize)
 
 // Adds an item, with a blank before it where one counts. After `NoMemory` some of it may be there.
 fn push_item<'a>(items: &mut Vec<Item<'a>>, apart: bool, item: Item<'a>) -> Result<(), NoMemory>
-    ensures { OnOk result (map item_value items.new.items ≡ map item_value items.old.items ++ spec.behind_blank apart (item_value item.entry)) }
+    ensures { OnOk result
+        (map item_value items.new.items
+        ≡ map item_value items.old.items ++ spec.behind_blank apart (item_value item.entry)) }
 {
     if apart && items.push(Item::Gap).is_err() {
         return Err(NoMemory);
@@ -204,15 +181,18 @@ fn push_item<'a>(items: &mut Vec<Item<'a>>, apart: bool, item: Item<'a>) -> Resu
     Ok(())
 }
 
-// Adds what the first of some tokens adds to the items, where `taken` tokens belong to the item before; says how many
-// tokens behind it belong to the same item.
+// Adds what the first of some tokens adds to the items, where `taken` tokens belong to the item
+// before; says how many tokens behind it belong to the same item.
 fn push_first<'a>(
     items: &mut Vec<Item<'a>>,
     before: &Token<'a>,
     taken: usize,
     tokens: &[Token<'a>],
 ) -> Result<usize, NoMemory>
-    ensures items { OnOk result (map item_value items.new.items ≡ map item_value items.old.items ++ spec.items_at (token_value before.now) taken (lexemes tokens.now)) }
+    ensures items { OnOk result
+        (map item_value items.new.items
+        ≡ map item_value items.old.items
+        ++ spec.items_at (token_value before.now) taken (lexemes tokens.now)) }
     ensures behind { IfOk result (λ left. left ≡ spec.taken_behind taken (lexemes tokens.now)) }
 {
     if taken > 0 {
@@ -233,7 +213,9 @@ pub fn items<'a>(
     first: &Token<'a>,
     tokens: &[Token<'a>],
 ) -> Result<Vec<Item<'a>>, NoMemory>
-    ensures { IfOk result (λ v. map item_value v.items ≡ spec.items_from (token_value first.now) 0 (lexemes tokens.now)) }
+    ensures { IfOk result
+        (λ v. map item_value v.items
+        ≡ spec.items_from (token_value first.now) 0 (lexemes tokens.now)) }
 {
     let mut items = Vec::new(alloc);
     let mut before = *first;

@@ -1,9 +1,7 @@
 //! Reading and printing instructions by a table: each form is a row of plain data.
 #![tactic(auto)]
 
-mod few_rows;
 pub mod items;
-pub mod laws;
 pub mod numerals;
 pub mod printer;
 pub mod reader;

@@ -131,7 +131,8 @@ fn push_slots(out: &mut Vec<u8>, held: Held, slots: &[Slot]) -> Result<(), NoMem
 
 // Adds what is printed for an operand behind what leads to it.
 fn push_operand(out: &mut Vec<u8>, held: Held, lead: Slot, shape: Shape) -> Result<(), NoMemory>
-    ensures { OnOk result (out.new.items ≡ out.old.items ++ spec.slots_text held (slots_of lead shape)) }
+    ensures { OnOk result
+        (out.new.items ≡ out.old.items ++ spec.slots_text held (slots_of lead shape)) }
 {
     let slots = slots_of(lead, shape);
     push_slots(out, held, &slots.places[..slots.count])
@@ -238,7 +239,11 @@ fn push_operands(
     requires ins { ins + length operands.now < 256 }
     requires outs { outs + length operands.now < 256 }
     requires numbers { numbers + length operands.now < 256 }
-    ensures { OnOk result (out.new.items ≡ out.old.items ++ spec.operands_text lead operands.now (spec.helds_in instr.now operands.now ins outs numbers)) }
+    ensures { OnOk result
+        (out.new.items
+        ≡ out.old.items
+        ++ spec.operands_text lead operands.now
+        (spec.helds_in instr.now operands.now ins outs numbers)) }
 {
     let Some((operand, operands)) = operands.split_first() else {
         return Ok(());
@@ -254,7 +259,10 @@ fn push_operands(
 // Adds what is printed for an instruction of a row.
 #[tactic(auto, unfolding(crate::specs::Printed::row_text))]
 fn push_row(out: &mut Vec<u8>, row: &Row, instr: &Instr) -> Result<(), NoMemory>
-    ensures { OnOk result (out.new.items ≡ out.old.items ++ spec.row_text row.now (spec.helds_in instr.now (row_operands row.now) 0 0 0)) }
+    ensures { OnOk result
+        (out.new.items
+        ≡ out.old.items
+        ++ spec.row_text row.now (spec.helds_in instr.now (row_operands row.now) 0 0 0)) }
 {
     append(out, row.mnemonic())?;
     push_operands(out, instr, Slot::Gap, &row.operands(), 0, 0, 0)
@@ -263,7 +271,8 @@ fn push_row(out: &mut Vec<u8>, row: &Row, instr: &Instr) -> Result<(), NoMemory>
 /// Adds an instruction's one printed spelling to `out`. After `NoMemory` nothing has changed.
 #[tactic(auto, unfolding(crate::specs::Printed::printed))]
 pub fn print_form(table: &Table<'_>, instr: &Instr, out: &mut Vec<u8>) -> Result<(), NoMemory>
-    ensures ok { OnOk result (out.new.items ≡ out.old.items ++ spec.printed (rows_of table.now) instr.now) }
+    ensures ok { OnOk result
+        (out.new.items ≡ out.old.items ++ spec.printed (rows_of table.now) instr.now) }
     ensures err { OnErr result (out.new.items ≡ out.old.items) }
 {
     let Some(row) = table.row(instr.form) else {

@@ -5,10 +5,11 @@ ghost use Rattle.form_table.specs.ItemViews.{item_value, lexemes};
 ghost use Rattle.form_table.specs.Rows.{row_operands};
 ghost use Rattle.form_table.specs.Reads as spec;
 ghost use Rattle.form_table.specs.TableRows.{rows_of};
-ghost use Rattle.sl_isa.specs.Arch.{Answers};
+ghost use Rattle.sl_model.specs.Answers.{Gives};
 ghost use Rattle.sl_text.specs.Tokens.{token_value};
+ghost use Rattle.sl_isa.specs.Arch.{reason_of};
 
-use crate::items::{Item, is_mark, is_touching, items};
+use crate::items::{Item, items};
 use crate::rows::{Alias, Operand, Range, Role, Row, Sum};
 use crate::spells::{Held, fill};
 use crate::table::Table;
@@ -448,14 +449,14 @@ fn is_suffixed(first: &Token<'_>, tokens: &[Token<'_>]) -> bool
     let Some((word, _)) = rest.split_first() else {
         return false;
     };
-    if !is_mark(b'.', dot) {
+    if !dot.is_mark(b'.') {
         return false;
     }
     if word.kind != TokenKind::Word {
         return false;
     }
-    if is_touching(first, dot) {
-        return is_touching(dot, word);
+    if dot.touches(first) {
+        return word.touches(dot);
     }
     false
 }
@@ -508,12 +509,14 @@ fn knows(table: &Table<'_>, first: &Token<'_>, tokens: &[Token<'_>]) -> bool
     is_mnemonic(table, first.text)
 }
 
-/// Reads the instruction that the tokens of a line spell, without line and tag, and neither early nor late. The tokens hold no comments.
-/// Where they spell none, the answer is the first reason for it.
+/// Reads the instruction that the tokens of a line spell, without line and tag, and
+/// neither early nor late. The tokens hold no comments. Where they spell none, the
+/// answer is the first reason for it.
 #[tactic(auto, unfolding(crate::specs::Reads::reads))]
 pub fn read_form(table: &Table<'_>, alloc: Global, tokens: &[Token<'_>]) -> Result<Instr, FormErr>
     requires { length (rows_of table.now) < 65536 }
-    ensures { Answers result (spec.reads (rows_of table.now) (lexemes tokens.now)) }
+    ensures { Gives reason_of (λ i. i) result
+        (spec.reads (rows_of table.now) (lexemes tokens.now)) }
 {
     let Some((first, rest)) = tokens.split_first() else {
         return Err(FormErr::Refused(FormReason::UnknownMnemonic));

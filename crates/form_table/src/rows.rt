@@ -129,7 +129,8 @@ pub enum Role {
     Back,
 }
 
-/// The numbers that an operand takes: the multiples of `step` from `least` to `most`. A step of 0 takes none.
+/// The numbers that an operand takes: the multiples of `step` from `least` to
+/// `most`. A step of 0 takes none.
 #[derive(Clone, Copy)]
 pub struct Range {
     pub least: i64,
@@ -137,7 +138,8 @@ pub struct Range {
     pub step: u32,
 }
 
-/// An operand: its spelling, the role of its register and which registers it takes, and which numbers it takes.
+/// An operand: its spelling, the role of its register and which registers it
+/// takes, and which numbers it takes.
 #[derive(Clone, Copy)]
 pub struct Operand {
     pub shape: Shape,
@@ -164,7 +166,8 @@ pub enum Alias {
     As(u16),
     /// That of another row, in which the first register stands twice.
     Repeat(u16),
-    /// That of another row without the number of the operand at a place, counted from 0, where it is 0; else its own.
+    /// That of another row without the number of the operand at a place, counted from
+    /// 0, where it is 0; else its own.
     ZeroAs { form: u16, place: u8 },
 }
 

@@ -92,7 +92,8 @@ pub fn register_of(letter: Letter, text: &str) -> Option<Reg>
     }
 }
 
-/// The conditions on flags, in the order of their numbers: each odd one is the opposite of the one before it.
+/// The conditions on flags, in the order of their numbers: each odd one is the
+/// opposite of the one before it.
 pub(crate) const CONDITIONS: [[u8; 2]; 14] = [
     *b"eq", *b"ne", *b"cs", *b"cc", *b"mi", *b"pl", *b"vs", *b"vc", *b"hi", *b"ls", *b"ge", *b"lt",
     *b"gt", *b"le",
@@ -129,7 +130,8 @@ fn condition_of(text: &str) -> Option<u8>
 
 // The word that an item is.
 fn word_in<'a>(item: &Item<'a>) -> Option<&'a str>
-    ensures { MatchOption result (spec.word_in (item_value item.now) ≡ None) (λ text. spec.word_in (item_value item.now) ≡ Some text.now) }
+    ensures { MatchOption result (spec.word_in (item_value item.now) ≡ None)
+        (λ text. spec.word_in (item_value item.now) ≡ Some text.now) }
 {
     match item {
         Item::Word(text) => Some(text),
@@ -240,7 +242,8 @@ fn front<'s, 'a>(held: Held, slots: &[Slot], items: &'s [Item<'a>]) -> Option<Ta
 
 // What an operand of a shape holds behind what leads to it.
 fn operand<'s, 'a>(lead: Slot, shape: Shape, items: &'s [Item<'a>]) -> Option<Taken<'s, 'a>>
-    ensures { ReadsTaken result (spec.front spec.empty (slots_of lead shape) (map item_value items.now)) }
+    ensures { ReadsTaken result
+        (spec.front spec.empty (slots_of lead shape) (map item_value items.now)) }
 {
     let empty = Held {
         register: None,

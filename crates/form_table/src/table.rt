@@ -4,7 +4,8 @@ ghost use Rattle.form_table.specs.TableRows.{rows_of};
 
 use crate::rows::Row;
 
-/// A table: its rows stand in three parts, one behind the other, since a constant can't hold many of them.
+/// A table: its rows stand in three parts, one behind the other, since a
+/// constant can't hold many of them.
 #[derive(Clone, Copy)]
 pub struct Table<'t> {
     pub first: &'t [Row],
@@ -15,7 +16,8 @@ pub struct Table<'t> {
 impl<'t> Table<'t> {
     /// The row of a form.
     pub fn row(&self, form: u16) -> Option<&'t Row>
-        ensures { MatchOption result (slice_get (rows_of self.now) form ≡ None) (λ row. slice_get (rows_of self.now) form ≡ Some row.now) }
+        ensures { MatchOption result (slice_get (rows_of self.now) form ≡ None)
+            (λ row. slice_get (rows_of self.now) form ≡ Some row.now) }
     {
         let place = usize::from(form);
         let first = self.first;

@@ -160,11 +160,6 @@ unit_free-taken i done free = rw (eq-eqb i.unit i.unit refl) (omega (arith, free
 pub IsFreeBy-taken : (limit : ℕ) (i : Issued) (done : List Issued) → IsFreeBy limit done → i.cycle ≤ limit → i.busy ≤ 255 → IsFreeBy (limit + 255) (i ∷ done)
 IsFreeBy-taken limit i done by soon brief = (omega (arith, soon), omega (arith, soon, brief), IsFreeBy-weaken limit (limit + 255) done (omega arith) by)
 
--- the last cycle is before the one by which all is free
-pub last_cycle-within : (limit : ℕ) (done : List Issued) → 1 ≤ limit → IsFreeBy limit done → last_cycle done + 1 ≤ limit
-last_cycle-within limit [] some by = some
-last_cycle-within limit (i ∷ done) some by = by.0
-
 -- one more push is issued behind all before it
 pub issued_from-push : (done : List Issued) (pushes : List Push) (p : Push) → issued_from done (pushes ++ p ∷ []) ≡ issue p (issued_from done pushes) ∷ issued_from done pushes
 unfolding issued_from

@@ -1,3 +1,4 @@
+pub mod ForCallers
 pub mod IssueRule
 pub mod TallyLemmas
 pub mod EntryLemmas

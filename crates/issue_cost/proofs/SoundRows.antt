@@ -1,17 +1,12 @@
 -- The rows and the forwards of sound costs have numbers of at least 1.
-use Rattle.std.proofs.Common.{◌≡◌, ℕ, ◌<◌, ◌≤◌, Bool, true, false, ◌&&◌, nat_lt, List, [], ◌∷◌, length, get_or, if◌then◌else◌, eqb, refl, ⊎_elim, arith}
+use Rattle.std.proofs.Common.{◌≡◌, ℕ, ◌<◌, ◌≤◌, Bool, true, false, ◌&&◌, nat_lt, List, [], ◌∷◌, length, get_or, if◌then◌else◌, eqb, ⊎_elim, arith}
 use Rattle.std.specs.List.{list_all}
-use Rattle.std.proofs.lemmas.Bool.{cases_Bool, ltb-true}
+use Rattle.std.proofs.lemmas.Bool.{cases_Bool, ltb-true, and_parts}
 use Rattle.std.proofs.lemmas.List.Folds.{list_all_at}
 use Rattle.sl_model.specs.Cycles.{forward_or}
 use Rattle.sl_model.specs.declared.schedule.CostRow.{CostRow}
 use Rattle.sl_model.specs.declared.schedule.Forward.{Forward}
 use Rattle.issue_cost.specs.Sound.{is_sound_row, is_sound_forward}
-
--- both of two tests hold where their conjunction does
-both : (a b : Bool) → (a && b) ≡ true → (a ≡ true) × (b ≡ true)
-both true b h = (refl, h)
-both false b h = absurd (cc)
 
 -- each of some sound rows is sound
 pub row-is_sound : (rows : List CostRow) (i : ℕ) (d : CostRow) → list_all is_sound_row rows ≡ true → i < length rows → is_sound_row (get_or rows i d) ≡ true
@@ -26,9 +21,9 @@ row-is_sound rows i d sound within =
 -- the numbers of a sound row
 pub sound_row : (row : CostRow) → is_sound_row row ≡ true → (0 < row.units) × (0 < row.busy) × (0 < row.latency) × (0 < row.writeback)
 sound_row row sound =
-    let one = both (nat_lt 0 row.units) (nat_lt 0 row.busy && (nat_lt 0 row.latency && nat_lt 0 row.writeback)) sound in
-    let two = both (nat_lt 0 row.busy) (nat_lt 0 row.latency && nat_lt 0 row.writeback) one.1 in
-    let three = both (nat_lt 0 row.latency) (nat_lt 0 row.writeback) two.1 in
+    let one = and_parts (nat_lt 0 row.units) (nat_lt 0 row.busy && (nat_lt 0 row.latency && nat_lt 0 row.writeback)) sound in
+    let two = and_parts (nat_lt 0 row.busy) (nat_lt 0 row.latency && nat_lt 0 row.writeback) one.1 in
+    let three = and_parts (nat_lt 0 row.latency) (nat_lt 0 row.writeback) two.1 in
     (ltb-true 0 row.units one.0, ltb-true 0 row.busy two.0, ltb-true 0 row.latency three.0, ltb-true 0 row.writeback three.1)
 
 -- one of two numbers of at least 1
@@ -47,6 +42,6 @@ pub some_forward : (forwards : List Forward) (from to operand latency : ℕ) →
 unfolding forward_or
 some_forward [] from to operand latency sound least = least
 some_forward (f ∷ forwards) from to operand latency sound least =
-    let tests = both (is_sound_forward f) (list_all is_sound_forward forwards) sound in
+    let tests = and_parts (is_sound_forward f) (list_all is_sound_forward forwards) sound in
     choice (eqb f.from from && (eqb f.to to && eqb f.operand operand)) f.latency (forward_or forwards from to operand latency)
     (sound_forward f tests.0) (some_forward forwards from to operand latency tests.1 least)

@@ -7,7 +7,8 @@ use Rattle.sl_model.specs.declared.schedule.Forward.{Forward}
 
 -- Does a row have a unit, and numbers of at least 1?
 abbrev pub is_sound_row : CostRow → Bool
-is_sound_row row = nat_lt 0 row.units && (nat_lt 0 row.busy && (nat_lt 0 row.latency && nat_lt 0 row.writeback))
+is_sound_row row =
+    nat_lt 0 row.units && (nat_lt 0 row.busy && (nat_lt 0 row.latency && nat_lt 0 row.writeback))
 
 -- Is a forward's latency at least 1?
 abbrev pub is_sound_forward : Forward → Bool

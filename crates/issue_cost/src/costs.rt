@@ -22,14 +22,20 @@ impl Model for Costs {
 
     ghost Value = { CostTable };
 
-    ghost view = { λ a. record { width = a.width; rows = a.rows.items; forwards = a.forwards.items } };
+    ghost view = { λ a. record {
+      width = a.width;
+      rows = a.rows.items;
+      forwards = a.forwards.items;
+    } };
 
-    ghost invariant = { λ a. IsSound (record { width = a.width; rows = a.rows.items; forwards = a.forwards.items }) };
+    ghost invariant = { λ a. IsSound
+        (record { width = a.width; rows = a.rows.items; forwards = a.forwards.items }) };
 }
 
 impl Costs {
-    /// Keeps a core's width, from 1 to 8 items in a cycle, a row for each item, and the forwards. Each row has a unit,
-    /// and each number of cycles is at least 1. Of forwards for the same classes and operand the first counts.
+    /// Keeps a core's width, from 1 to 8 items in a cycle, a row for each item, and the forwards.
+    /// Each row has a unit, and each number of cycles is at least 1. Of forwards for the same
+    /// classes and operand the first counts.
     pub fn new(
         alloc: Global,
         width: u8,
@@ -37,7 +43,8 @@ impl Costs {
         forwards: &[Forward],
     ) -> Result<Costs, NoMemory>
         requires { IsSound (record { width = width; rows = rows.now; forwards = forwards.now }) }
-        ensures { IfOk result (λ costs. costs ≡ record { width = width; rows = rows.now; forwards = forwards.now }) }
+        ensures { IfOk result
+            (λ costs. costs ≡ record { width = width; rows = rows.now; forwards = forwards.now }) }
     {
         let rows = Vec::from_slice(alloc, rows)?;
         let forwards = Vec::from_slice(alloc, forwards)?;
@@ -83,9 +90,9 @@ impl Costs {
         u32::from(self.row(item).busy)
     }
 
-    /// After how many cycles the output at a place of one item is ready for an operand of another, from 1 to 255: the
-    /// `writeback` of the first for its written-back base, else the latency of the forward for the two classes and the
-    /// operand, else the `latency` of the first.
+    /// After how many cycles the output at a place of one item is ready for an operand of another,
+    /// from 1 to 255: the `writeback` of the first for its written-back base, else the latency of
+    /// the forward for the two classes and the operand, else the `latency` of the first.
     #[tactic(auto, unfolding(sl_model::specs::Cycles::ready_after))]
     pub fn ready_after(&self, from: u16, place: u8, to: u16, operand: u8) -> u32
         requires from_has_a_row { from < length self.now.rows }
@@ -124,12 +131,14 @@ fn is_back(row: &CostRow, place: u8) -> bool
 
 /// Is a forward for two classes and an operand of the second?
 fn is_between(forward: &Forward, from: u8, to: u8, operand: u8) -> bool
-    ensures { result ≡ (forward.now.from == from && (forward.now.to == to && forward.now.operand == operand)) }
+    ensures { result ≡ (forward.now.from == from
+        && (forward.now.to == to && forward.now.operand == operand)) }
 {
     forward.from == from && forward.to == to && forward.operand == operand
 }
 
-/// The latency of the first forward for two classes and an operand of the second, or else the given one.
+/// The latency of the first forward for two classes and an operand of the
+/// second, or else the given one.
 #[tactic(auto, unfolding(sl_model::specs::Cycles::forward_or))]
 fn forward_or(forwards: &[Forward], from: u8, to: u8, operand: u8, latency: u8) -> u8
     ensures { result ≡ forward_or forwards.now from to operand latency }

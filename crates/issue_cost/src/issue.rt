@@ -20,8 +20,8 @@ struct Entry {
     tally: Tally,
 }
 
-/// The items issued so far, in order, in room made before. A push, a pop and a question take the same time however many
-/// items there are.
+/// The items issued so far, in order, in room made before. A push, a pop and a question take the
+/// same time however many items there are.
 #[derive(Drop)]
 pub struct Issue {
     entries: Vec<Entry>,
@@ -35,7 +35,10 @@ impl Model for Issue {
 
     ghost use Rattle.issue_cost.specs.Entries.{pushed, IsKept};
 
-    ghost view = { λ a. record { pushes = map pushed a.entries.items; room = vec_capacity a.entries } };
+    ghost view = { λ a. record {
+      pushes = map pushed a.entries.items;
+      room = vec_capacity a.entries;
+    } };
 
     ghost invariant = { λ a. IsKept (vec_capacity a.entries) a.entries.items };
 }
@@ -50,9 +53,9 @@ impl Issue {
         Ok(Issue { entries })
     }
 
-    /// Issues one more item to a unit below 16, where its operands are ready from the cycle `ready` on, at most 2^30,
-    /// and gives its cycle. There has to be room for it. Each push counts with the width of the costs that it got. The
-    /// unit is free again when the item has kept it.
+    /// Issues one more item to a unit below 16, where its operands are ready from the cycle `ready`
+    /// on, at most 2^30, and gives its cycle. There has to be room for it. Each push counts with
+    /// the width of the costs that it got. The unit is free again when the item has kept it.
     pub fn push(&mut self, costs: &Costs, item: u16, unit: u8, ready: u32) -> u32
         requires room { length self.old.pushes < self.old.room }
         requires item { item < length costs.now.rows }
@@ -68,10 +71,13 @@ impl Issue {
           } ∷ [];
         } }
         ensures counted { issued self.new.pushes ≡
-            record { unit = unit; busy = (row_of costs.now item).busy; cycle = result } ∷ issued self.old.pushes }
-        ensures kept { unit_free unit (issued self.new.pushes) ≡ result + (row_of costs.now item).busy }
+            record { unit = unit; busy = (row_of costs.now item).busy; cycle = result }
+            ∷ issued self.old.pushes }
+        ensures kept { unit_free unit (issued self.new.pushes)
+            ≡ result + (row_of costs.now item).busy }
         ensures fits { result ≤ 2 ^ 30 + 2 ^ 24 }
-        ensures within { (limit : ℕ) → IsFreeBy limit (issued self.old.pushes) → ready ≤ limit → result ≤ limit }
+        ensures within { (limit : ℕ) → IsFreeBy limit (issued self.old.pushes) → ready ≤ limit
+            → result ≤ limit }
         ensures free { (limit : ℕ) → IsFreeBy limit (issued self.old.pushes) → ready ≤ limit
             → IsFreeBy (limit + 255) (issued self.new.pushes) }
     {
@@ -92,28 +98,32 @@ impl Issue {
     pub fn pop(&mut self)
         requires { 0 < length self.old.pushes }
         ensures last { (last : Push) × (self.old.pushes ≡ self.new.pushes ++ last ∷ []) }
-        ensures undone { (pushes : List Push) (last : Push) → self.old.pushes ≡ pushes ++ last ∷ [] → self.new.pushes ≡ pushes }
+        ensures undone { (pushes : List Push) (last : Push) → self.old.pushes ≡ pushes ++ last ∷ []
+            → self.new.pushes ≡ pushes }
         ensures room { self.new.room ≡ self.old.room }
     {
         let _ = self.entries.pop();
     }
 
-    /// The cycle that one more item would be issued at: the least one that the issue rule allows. The unit is below 16,
-    /// and `ready` at most 2^30.
+    /// The cycle that one more item would be issued at: the least one that the issue rule allows.
+    /// The unit is below 16, and `ready` at most 2^30.
     pub fn cycle_for(&self, costs: &Costs, unit: u8, ready: u32) -> u32
         requires unit { unit < 16 }
         requires ready { ready ≤ 2 ^ 30 }
         ensures cycle { result ≡ next_cycle costs.now.width unit ready (issued self.now.pushes) }
         ensures may_issue { MayIssue costs.now.width unit ready (issued self.now.pushes) result }
-        ensures least { (cycle : ℕ) → MayIssue costs.now.width unit ready (issued self.now.pushes) cycle → result ≤ cycle }
+        ensures least { (cycle : ℕ)
+            → MayIssue costs.now.width unit ready (issued self.now.pushes) cycle → result ≤ cycle }
         ensures fits { result ≤ 2 ^ 30 + 2 ^ 24 }
-        ensures within { (limit : ℕ) → IsFreeBy limit (issued self.now.pushes) → ready ≤ limit → result ≤ limit }
+        ensures within { (limit : ℕ) → IsFreeBy limit (issued self.now.pushes) → ready ≤ limit
+            → result ≤ limit }
     {
         let width = costs.width();
         self.tally().next_cycle(width, unit, ready)
     }
 
-    /// How many cycles the items take: one more than the cycle of the last, and 0 where there is none.
+    /// How many cycles the items take: one more than the cycle of the
+    /// last, and 0 where there is none.
     pub fn cycles(&self) -> u32
         ensures cycles { result ≡ cycle_count (issued self.now.pushes) }
         ensures fits { result ≤ 2 ^ 30 + 2 ^ 24 }
@@ -137,7 +147,8 @@ impl Issue {
         ensures tally { Tallies (issued self.now.pushes) result }
         ensures few { length self.now.pushes ≤ self.now.room }
         ensures small { self.now.room ≤ 65536 }
-        ensures free_by { IsFreeBy (2 ^ 30 + 256 * length self.now.pushes) (issued self.now.pushes) }
+        ensures free_by { IsFreeBy (2 ^ 30 + 256 * length self.now.pushes)
+            (issued self.now.pushes) }
     {
         let len = self.entries.len();
         if len == 0 {

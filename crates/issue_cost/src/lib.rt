@@ -1,5 +1,5 @@
-//! When a core issues items: the costs of a list of items, and the cycles at which they are issued one after the
-//! other.
+//! When a core issues items: the costs of a list of items, and the cycles at which they
+//! are issued one after the other.
 #![tactic(auto)]
 
 pub use costs::Costs;
@@ -10,5 +10,3 @@ pub use sl_model::schedule::{CostRow, Forward};
 mod costs;
 mod issue;
 mod tally;
-#[cfg(test)]
-mod tests;

@@ -1,4 +1,5 @@
-//! What is kept of the items that were issued, so that the next one's cycle is found without counting them again.
+//! What is kept of the items that were issued, so that the next one's cycle is
+//! found without counting them again.
 ghost use Rattle.std.specs.Prelude.{◌≡◌, ℕ, ◌+◌, ◌^◌, ◌<◌, ◌≤◌, List, [], ◌∷◌, length};
 ghost use Rattle.sl_model.specs.Cycles.{Issued, first_slot, next_cycle, unit_free};
 ghost use Rattle.issue_cost.specs.Tallies.{Tallies};
@@ -47,7 +48,8 @@ impl Tally {
         requires width { 1 ≤ width }
         requires unit { unit < 16 }
         requires fits { self.now.cycle + 1 < 2 ^ 32 }
-        ensures { (done : List Issued) → Tallies done self.now → result ≡ next_cycle width unit ready done }
+        ensures { (done : List Issued) → Tallies done self.now
+            → result ≡ next_cycle width unit ready done }
     {
         let free = self.free[usize::from(unit)];
         self.first_slot(width).max(ready.max(free))

@@ -3,4 +3,4 @@ pub mod Halving
 pub mod LaneByLane
 pub mod Moves
 pub mod Rounding
-pub mod Fits
+pub mod ForCallers

@@ -1,4 +1,5 @@
--- Vector registers as lists of lanes, from the low end. Source: DDI 0487, A64 Advanced SIMD, Elem and Vpart.
+-- Vector registers as lists of lanes, from the low end. Source: DDI 0487, A64
+-- Advanced SIMD, Elem and Vpart.
 use Rattle.std.specs.Prelude.{ℕ, ℤ, pos, ◌+◌, ◌-◌, ◌*◌, ◌/◌, ◌%◌, ◌^◌, ◌-ℤ◌, int_lt, zero, suc, List, [], ◌∷◌, unsigned_abs, if◌then◌else◌}
 use Rattle.std.specs.Int.{int_rem_euclid}
 use Rattle.sl_isa.specs.declared.meaning.Arrangement.{Arrangement}
@@ -7,7 +8,7 @@ use Rattle.sl_isa.specs.declared.meaning.Lane.{Lane}
 use Rattle.sl_isa.specs.declared.meaning.Lane.TheVariants.{Byte, Half, Word, Double}
 use Rattle.bit_ops.specs.Bits.{is_negative}
 
--- the bits of a lane, and how many lanes there are
+-- the bits of a lane of an arrangement
 abbrev pub lane_bits : Arrangement → ℕ
 lane_bits Bytes8 = 8
 lane_bits Bytes16 = 8
@@ -17,6 +18,7 @@ lane_bits Words2 = 32
 lane_bits Words4 = 32
 lane_bits Doubles2 = 64
 
+-- how many lanes an arrangement has
 abbrev pub lane_count : Arrangement → ℕ
 lane_count Bytes8 = 8
 lane_count Bytes16 = 16
@@ -26,13 +28,14 @@ lane_count Words2 = 2
 lane_count Words4 = 4
 lane_count Doubles2 = 2
 
--- the same of a lane of a whole register
+-- the bits of a lane by itself
 abbrev pub bits_of : Lane → ℕ
 bits_of Byte = 8
 bits_of Half = 16
 bits_of Word = 32
 bits_of Double = 64
 
+-- how many such lanes a whole register has
 abbrev pub count_of : Lane → ℕ
 count_of Byte = 16
 count_of Half = 8
@@ -54,10 +57,11 @@ unfoldable pub repeated : ℕ → ℕ → List ℕ
 repeated zero x = []
 repeated (suc count) x = x ∷ repeated count x
 
--- a number of so many bits as a signed one, and a number in the range of signed ones: the nearest there
+-- a number of so many bits as a signed one
 abbrev pub signed : ℕ → ℕ → ℤ
 signed bits x = if is_negative bits x then pos x -ℤ pos (2 ^ bits) else pos x
 
+-- the number nearest to a number among the signed ones of so many bits
 abbrev pub saturated : ℕ → ℤ → ℤ
 saturated bits z =
     if int_lt (pos (2 ^ (bits - 1)) -ℤ pos 1) z then pos (2 ^ (bits - 1)) -ℤ pos 1

@@ -63,7 +63,8 @@ impl Cut {
 
     /// The lanes above the lowest one, where there is one.
     pub fn above(self) -> Option<Cut>
-        ensures { MatchOption result (self.count ≡ 0) (λ rest. (rest.bits ≡ self.bits) × (self.count ≡ suc rest.count)) }
+        ensures { MatchOption result (self.count ≡ 0)
+            (λ rest. (rest.bits ≡ self.bits) × (self.count ≡ suc rest.count)) }
     {
         if self.count == 0 {
             return None;
@@ -127,7 +128,8 @@ impl Cut {
 
     /// A register with another lane at a place, where it has a lane there.
     pub fn inserted(self, register: u128, place: u128, lane: u128) -> u128
-        ensures { result ≡ joined self.bits (slice_set (lanes_of self.bits self.count register) place lane) }
+        ensures { result
+            ≡ joined self.bits (slice_set (lanes_of self.bits self.count register) place lane) }
     {
         let Some(above) = self.above() else {
             return 0;

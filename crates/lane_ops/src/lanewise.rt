@@ -10,7 +10,8 @@ use sl_isa::meaning::LaneOp;
 /// An operation on each lane of the destination and of two operands.
 pub fn lane_values(op: LaneOp, cut: Cut, d: u128, n: u128, m: u128) -> u128
     ensures { result ≡ joined cut.bits (lane_values op cut.bits
-        (lanes_of cut.bits cut.count d) (lanes_of cut.bits cut.count n) (lanes_of cut.bits cut.count m)) }
+        (lanes_of cut.bits cut.count d) (lanes_of cut.bits cut.count n)
+        (lanes_of cut.bits cut.count m)) }
 {
     let Some(above) = cut.above() else {
         return 0;

@@ -5,11 +5,8 @@ pub use vector::vector_value;
 
 mod cut;
 mod lanewise;
-pub mod laws;
 mod long;
 mod permute;
 mod shifts;
 mod signed;
-#[cfg(test)]
-mod tests;
 mod vector;

@@ -9,7 +9,8 @@ use bit_ops::{extended, low_bits, shift_right};
 /// Products of lanes of two operands, added to the lanes of the destination.
 pub fn long_values(signed: bool, cut: Cut, d: u128, n: u128, m: u128) -> u128
     ensures { result ≡ joined cut.bits (long_values signed (cut.bits / 2)
-        (lanes_of cut.bits cut.count d) (lanes_of (cut.bits / 2) cut.count n) (lanes_of (cut.bits / 2) cut.count m)) }
+        (lanes_of cut.bits cut.count d) (lanes_of (cut.bits / 2) cut.count n)
+        (lanes_of (cut.bits / 2) cut.count m)) }
 {
     let Some(above) = cut.above() else {
         return 0;

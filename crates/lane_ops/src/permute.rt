@@ -46,7 +46,8 @@ fn taken_from(op: Permutation, count: u32, place: u32) -> u32
     }
 }
 
-// Where the lanes of the first register begin for an even place, and those of the second one for an odd place.
+// Where the lanes of the first register begin for an even place, and those of
+// the second one for an odd place.
 fn register_start(count: u32, place: u32) -> u32
     ensures { result ≡ (if place % 2 == 0 then 0 else count) }
 {
@@ -80,9 +81,11 @@ fn extracted_from(cut: Cut, n: u128, m: u128, place: u128, count: u32) -> u128
     cut.joined(lane, rest)
 }
 
-// The lane at a place among those of two registers, one behind the other, and 0 where they have fewer.
+// The lane at a place among those of two registers, one behind the
+// other, and 0 where they have fewer.
 fn lane_of_both(cut: Cut, n: u128, m: u128, place: u128) -> u128
-    ensures { result ≡ slice_index (lanes_of cut.bits cut.count n ++ lanes_of cut.bits cut.count m) place }
+    ensures { result
+        ≡ slice_index (lanes_of cut.bits cut.count n ++ lanes_of cut.bits cut.count m) place }
 {
     let count = u128::from(cut.count);
     if place < count {

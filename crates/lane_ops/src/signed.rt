@@ -83,7 +83,8 @@ fn high_part(bits: u32, product: i128, added: u128) -> i128
     (product + added as i128).div_euclid(1 << (bits - 1))
 }
 
-/// The high half of twice a signed product of so many bits, with twice something added before, saturated.
+/// The high half of twice a signed product of so many bits, with twice
+/// something added before, saturated.
 pub fn doubled_high(bits: u32, n: u128, m: u128, added: u128) -> u128
     requires some { 1 ≤ bits }
     requires narrow { bits ≤ 64 }

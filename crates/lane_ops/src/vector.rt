@@ -65,7 +65,8 @@ pub fn vector_value(op: Vector, imms: &[i64], ins: &[u128]) -> u128
 fn by_element(op: LaneOp, cut: Cut, d: u128, n: u128, element: u128) -> u128
     requires { element < 2 ^ cut.bits }
     ensures { result ≡ joined cut.bits (spec.lane_values op cut.bits
-        (lanes_of cut.bits cut.count d) (lanes_of cut.bits cut.count n) (repeated cut.count element)) }
+        (lanes_of cut.bits cut.count d) (lanes_of cut.bits cut.count n)
+        (repeated cut.count element)) }
 {
     lane_values(op, cut, d, n, cut.repeated(element))
 }

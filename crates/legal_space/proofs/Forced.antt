@@ -1,86 +1,27 @@
 -- Legal choices whose outputs are final in their own registers: each is the item's own choice, and reduced.
-use Rattle.std.proofs.Common.{◌≡◌, ℕ, zero, suc, ◌+◌, ◌<◌, ◌≤◌, Bool, true, false, ◌&&◌, ◌||◌, ◌==◌, not, eqb, List, [], ◌∷◌, length, Option, None, Some, if◌then◌else◌, inl, inr, refl, sym, ap, ◌∙◌, subst, ⊎_elim, true≢false, slice_get, arith}
+use Rattle.std.proofs.Common.{◌≡◌, ℕ, zero, suc, ◌+◌, ◌<◌, ◌≤◌, Bool, true, ◌&&◌, ◌||◌, not, List, [], ◌∷◌, length, Some, refl, sym, ap, ◌∙◌, subst, ⊎_elim, true≢false, slice_get, arith}
 use Rattle.std.specs.List.{list_all, list_any, zip, enumerate_from}
-use Rattle.std.proofs.lemmas.Bool.{and_parts, or_cases, eqb-true, eq-eqb, not-true, both_ways, or_left, or_right}
-use Rattle.sl_model.specs.declared.register.Bank.{Bank}
-use Rattle.sl_model.specs.declared.register.Bank.TheVariants.{General, Vector, Flags, Stack}
+use Rattle.std.proofs.lemmas.Bool.{and_parts, or_cases, not-true, both_ways, or_left, or_right}
 use Rattle.sl_model.specs.declared.register.Reg.{Reg}
 use Rattle.sl_model.specs.declared.register.RegSet.{RegSet}
 use Rattle.sl_model.specs.declared.instruction.Instr.{Instr}
 use Rattle.sl_model.specs.declared.schedule.Choice.{Choice}
 use Rattle.sl_model.specs.declared.schedule.Source.{Source}
 use Rattle.sl_model.specs.declared.schedule.Source.TheVariants.{Item}
-use Rattle.sl_model.specs.declared.problem.Rule.{Rule}
-use Rattle.sl_model.specs.declared.problem.Rule.TheVariants.{L1, L2, L3, L4, L5, L6}
-use Rattle.sl_model.specs.Register.{same_reg, same_bool, bank_number}
+use Rattle.sl_model.specs.Register.{same_reg, same_bool}
 use Rattle.sl_model.specs.RegSets.{set_has, set_count}
 use Rattle.sl_model.specs.Source.{outputs, padded, item_at}
 use Rattle.sl_model.specs.Isa.{Isa}
 use Rattle.sl_model.specs.Body.{chosen, stands_in, same_source, all_differ}
 use Rattle.sl_model.specs.Lawful.{IsValid}
-use Rattle.sl_model.specs.Legal.{Problem, IsOf, IsLegalNext, IsLegalFrom, first_broken, keeps_l1, keeps_l2, keeps_l3, keeps_l4, keeps_l5, keeps_l6, allowed_in, output_classes, suits_output, suits_readers, suits_finals, is_final_in, is_flags, numbers_below}
+use Rattle.sl_model.specs.Legal.{Problem, IsOf, IsLegalNext, IsLegalFrom, allowed_in, output_classes, suits_output, suits_readers, suits_finals, is_final_in, is_flags, numbers_below}
 use Rattle.sl_model.specs.Space.{IsReducedNext, IsReducedFrom, is_free_output, is_final_output, is_tied_output}
 use Rattle.legal_space.specs.Listing.{are_outputs_final, IsListable, own_choice}
-use Rattle.legal_space.proofs.Members.{Has, from-numbers, has-numbers}
-
--- equal truth values
-same_bool-true : (a b : Bool) → same_bool a b ≡ true → a ≡ b
-same_bool-true true true e = refl
-same_bool-true false false e = refl
-same_bool-true true false e = cc
-same_bool-true false true e = cc
-
--- banks with one number are equal
-same_bank : (a b : Bank) → bank_number a ≡ bank_number b → a ≡ b
-same_bank General General e = refl
-same_bank Vector Vector e = refl
-same_bank Flags Flags e = refl
-same_bank Stack Stack e = refl
-same_bank General Vector e = absurd (omega arith)
-same_bank General Flags e = absurd (omega arith)
-same_bank General Stack e = absurd (omega arith)
-same_bank Vector General e = absurd (omega arith)
-same_bank Vector Flags e = absurd (omega arith)
-same_bank Vector Stack e = absurd (omega arith)
-same_bank Flags General e = absurd (omega arith)
-same_bank Flags Vector e = absurd (omega arith)
-same_bank Flags Stack e = absurd (omega arith)
-same_bank Stack General e = absurd (omega arith)
-same_bank Stack Vector e = absurd (omega arith)
-same_bank Stack Flags e = absurd (omega arith)
-
--- two names of one register are equal
-same_reg-true : (a b : Reg) → same_reg a b ≡ true → a ≡ b
-unfolding same_reg
-same_reg-true a b e =
-    let parts = and_parts (bank_number a.bank == bank_number b.bank) (same_bool a.symbolic b.symbolic && (a.number == b.number)) e in
-    let rest = and_parts (same_bool a.symbolic b.symbolic) (a.number == b.number) parts.1 in
-    let bank = same_bank a.bank b.bank (eqb-true _ _ parts.0) in
-    let symbolic = same_bool-true a.symbolic b.symbolic rest.0 in
-    let number = eqb-true _ _ rest.1 in
-    λ i. record { bank = bank i; symbolic = symbolic i; number = number i }
-
--- What is used of a legal choice: the item wasn't placed, its outputs suit their registers, and its unit is the class's.
-pub record KeepsRules (isa : Isa) (problem : Problem) (done : List Choice) (c : Choice) : Type 0 where
-  pub l1 : keeps_l1 problem done c ≡ true
-  pub l4 : keeps_l4 isa problem c ≡ true
-  pub l6 : keeps_l6 problem c ≡ true
-
--- where a rule isn't named as broken, it holds, and no later one is broken
-rule_kept : (a : Bool) (rule : Rule) (later : Option Rule) → (if not a then Some rule else later) ≡ None → (a ≡ true) × (later ≡ None)
-rule_kept true rule later e = (refl, e)
-rule_kept false rule later e = absurd (cc)
-
-pub keeps_rules : (isa : Isa) (problem : Problem) (done : List Choice) (c : Choice) → first_broken isa problem done c ≡ None → KeepsRules isa problem done c
-unfolding first_broken
-keeps_rules isa problem done c none =
-    let r1 = rule_kept (keeps_l1 problem done c) L1 _ none in
-    let r2 = rule_kept (keeps_l2 isa problem done c) L2 _ r1.1 in
-    let r3 = rule_kept (keeps_l3 isa problem done c) L3 _ r2.1 in
-    let r4 = rule_kept (keeps_l4 isa problem c) L4 _ r3.1 in
-    let r5 = rule_kept (keeps_l5 isa problem done c) L5 _ r4.1 in
-    let r6 = rule_kept (keeps_l6 problem c) L6 _ r5.1 in
-    record { l1 = r1.0; l4 = r4.0; l6 = r6.0 }
+use Rattle.sl_laws.proofs.Members.{Has, from-numbers, has-numbers}
+use Rattle.sl_laws.proofs.RegSets.{set_count-bound}
+use Rattle.sl_laws.proofs.Rules.{keeps_rules}
+use Rattle.sl_laws.proofs.Orders.{has-standing, standing-has, standing-passes}
+use Rattle.sl_laws.proofs.Registers.{same_reg-true}
 
 -- a value that is final in one register suits no other
 final-same : (value : Source) (o r : Reg) (finals : List (Reg × Source))
@@ -118,44 +59,6 @@ own-registers isa problem item k (r ∷ regs) (set ∷ sets) (o ∷ outs) same f
     let rest : regs ≡ outs = own-registers isa problem item (k + 1) regs sets outs (omega arith) (omega arith) s.1 f.1 in
     λ i. head i ∷ rest i
 
--- as many sets as have a register are at most all
-set_count-bound : (sets : List RegSet) → set_count sets ≤ length sets
-unfolding set_count
-set_count-bound [] = omega arith
-set_count-bound (set ∷ sets) = bound (eqb set.bits 0) (set_count sets) (length sets) (set_count-bound sets)
-  where
-    bound : (b : Bool) (m n : ℕ) → m ≤ n → (if b then 0 else 1) + m ≤ suc n
-    bound true m n le = omega arith
-    bound false m n le = omega arith
-
--- what all items of an order pass, each passes
-pub standing-passes : (p : ℕ → Bool) (item : ℕ) (order : List ℕ) → stands_in item order ≡ true → list_all p order ≡ true → p item ≡ true
-unfolding stands_in
-standing-passes p item [] stands all = absurd (true≢false (sym stands))
-standing-passes p item (q ∷ order) stands all =
-    let parts = and_parts (p q) (list_all p order) all in
-    ⊎_elim
-    (λ (here : eqb q item ≡ true). subst (λ x. p x ≡ true) (eqb-true q item here) parts.0)
-    (λ (there : stands_in item order ≡ true). standing-passes p item order there parts.1)
-    (or_cases (eqb q item) (stands_in item order) stands)
-
--- an item that stands in an order is one of it, and the other way
-pub standing-has : (item : ℕ) (order : List ℕ) → stands_in item order ≡ true → Has item order
-unfolding stands_in
-standing-has item [] stands = absurd (true≢false (sym stands))
-standing-has item (q ∷ order) stands = ⊎_elim
-    (λ (here : eqb q item ≡ true). inl (eqb-true q item here))
-    (λ (there : stands_in item order ≡ true). inr (standing-has item order there))
-    (or_cases (eqb q item) (stands_in item order) stands)
-
-pub has-standing : (item : ℕ) (order : List ℕ) → Has item order → stands_in item order ≡ true
-unfolding stands_in
-has-standing item [] h = absurd h
-has-standing item (q ∷ order) h = ⊎_elim
-    (λ (here : q ≡ item). or_left (eqb q item) (stands_in item order) (eq-eqb q item here))
-    (λ (there : Has item order). or_right (eqb q item) (stands_in item order) (has-standing item order there))
-    h
-
 module _ (isa : Isa) (problem : Problem) (listable : IsListable isa problem) where
   -- an item of the order is one of the problem
   pub known-item : (item : ℕ) → stands_in item problem.order ≡ true → item < length problem.items
@@ -171,7 +74,7 @@ module _ (isa : Isa) (problem : Problem) (listable : IsListable isa problem) whe
       let bound : set_count (isa.info i.form).out_sets ≤ length (isa.info i.form).out_sets = set_count-bound (isa.info i.form).out_sets in
       let l4 = and_parts (list_all (suits_output isa problem c.item) (output_classes isa problem c)) (all_differ (chosen c)) (keeps_rules isa problem done c legal.rules).l4 in
       own-registers isa problem c.item 0 (chosen c) (isa.info i.form).out_sets (outputs i) legal.of.outputs_given (omega arith) l4.0
-      (standing-passes (are_outputs_final problem) c.item problem.order legal.of.known listable.forced)
+      (standing-passes (are_outputs_final problem) problem.order c.item listable.forced legal.of.known)
 
   -- so a legal choice is the item's own choice
   pub forced-choice : (done : List Choice) (c : Choice) → IsLegalNext isa problem done c → c ≡ own_choice problem c.item c.unit
@@ -218,7 +121,7 @@ module _ (isa : Isa) (problem : Problem) (listable : IsListable isa problem) whe
 
       never : (place : ℕ) (r : Reg) → slice_get (chosen c) place ≡ Some r → is_free_output isa problem c (place, r) ≡ true → ⊥
       never place r at free =
-          let finals = standing-passes (are_outputs_final problem) c.item problem.order legal.of.known listable.forced in
+          let finals = standing-passes (are_outputs_final problem) problem.order c.item listable.forced legal.of.known in
           let own : slice_get (outputs (item_at problem.items c.item)) place ≡ Some r = subst (λ regs. slice_get regs place ≡ Some r) (forced-registers done c legal) at in
           let there : is_final_in problem r (Item c.item (0 + place)) ≡ true = place-passes (λ x. is_final_in problem x.1 (Item c.item x.0)) 0 place r (outputs (item_at problem.items c.item)) own finals in
           let sum : 0 + place ≡ place = omega arith in

@@ -5,8 +5,8 @@ use Rattle.sl_model.specs.declared.schedule.Choice.{Choice}
 use Rattle.sl_model.specs.Legal.{Problem}
 use Rattle.sl_model.specs.Space.{stalls_of, comes_before}
 use Rattle.legal_space.specs.Listing.{Found, better, best_of}
-use Rattle.legal_space.proofs.Members.{Has, Ordered}
 use Rattle.legal_space.proofs.Keys.{NotBehind, before-itself}
+use Rattle.sl_laws.proofs.Members.{Has, Ordered}
 
 -- What is best after a list was offered: no schedule of it has fewer stalls than the limit; and either nothing has
 -- changed, or the best is of the list, has as many stalls as the limit says, which is lower, and is behind none with as many.

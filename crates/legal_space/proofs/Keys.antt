@@ -10,7 +10,7 @@ use Rattle.sl_model.specs.Body.{chosen}
 use Rattle.sl_model.specs.Legal.{Problem, keeps_l6, numbers_below}
 use Rattle.sl_model.specs.Space.{choice_key, schedule_key, comes_before}
 use Rattle.legal_space.specs.Listing.{own_choice, choices_below, own_choices, all_choices}
-use Rattle.legal_space.proofs.Members.{Ordered, ordered-map, ordered-flat_map, ordered-numbers, ordered-filter, from-map, from-filter}
+use Rattle.sl_laws.proofs.Members.{Ordered, from-filter, from-map, ordered-filter, ordered-flat_map, ordered-map, ordered-numbers}
 
 nat_cmp-same : (n : ℕ) → nat_cmp n n ≡ Equal
 nat_cmp-same n =

@@ -1,10 +1,9 @@
-pub mod CycleLemmas
+pub mod ForCallers
 pub mod Forced
 pub mod FoundLemmas
 pub mod Keys
 pub mod ListingLemmas
 pub mod LoopSteps
-pub mod Members
 pub mod PlacedLemmas
 pub mod StraightLemmas
 pub mod TimesLemmas

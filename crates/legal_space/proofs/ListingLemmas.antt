@@ -6,7 +6,7 @@ use Rattle.std.proofs.lemmas.List.Elements.{filter-append}
 use Rattle.std.proofs.lemmas.List.Concat.{flat_map-append}
 use Rattle.std.proofs.lemmas.Bool.{cases_Bool, and_from, lt-ltb, or_cases, eqb-true, eq-eqb, not-true, both_ways, cases_lt, false_from_ne_true}
 use Rattle.sl_model.specs.declared.schedule.Choice.{Choice}
-use Rattle.sl_model.specs.declared.problem.Rule.{Rule}
+use Rattle.sl_model.specs.declared.rules.Rule.{Rule}
 use Rattle.sl_model.specs.Isa.{Isa}
 use Rattle.sl_model.specs.Body.{is_placed, is_full, stands_in}
 use Rattle.sl_model.specs.Cycles.{row_of}
@@ -14,11 +14,14 @@ use Rattle.sl_model.specs.Legal.{Problem, IsOf, IsLegalNext, IsLegalFrom, first_
 use Rattle.sl_model.specs.Space.{InSpace, IsBest, stalls_of, comes_before}
 use Rattle.legal_space.specs.Listing.{IsListable, is_known, own_choice, choices_below, own_choices, all_choices, listed, Found, better, best_of}
 use Rattle.legal_space.proofs.PlacedLemmas.{is_placed-any, any_placed}
-use Rattle.legal_space.proofs.Members.{Has, Ordered, has-all, has-filter, from-filter, has-flat_map, from-flat_map, ordered-flat_map, has-map, from-map, has-numbers, from-numbers, length-numbers}
 use Rattle.legal_space.proofs.Keys.{Before, NotBehind, branch-before, ordered-choices}
-use Rattle.legal_space.proofs.Forced.{keeps_rules, standing-passes, known-item, forced-choice, own-of, forced-reduced_from}
+use Rattle.legal_space.proofs.Forced.{known-item, forced-choice, own-of, forced-reduced_from}
 use Rattle.legal_space.proofs.FoundLemmas.{IsOutcome, best_of-outcome, best_of-append}
 use Rattle.legal_space.proofs.Units.{no_bit_past}
+use Rattle.sl_laws.proofs.Members.{Has, Ordered, from-filter, from-flat_map, from-map, from-numbers, has-all, has-filter, has-flat_map, has-map, has-numbers, ordered-flat_map}
+use Rattle.sl_laws.proofs.Numbers.{length-numbers}
+use Rattle.sl_laws.proofs.Rules.{keeps_rules}
+use Rattle.sl_laws.proofs.Orders.{standing-passes}
 
 -- whichever way choices are listed, they place the same items
 reverse-placed : (done : List Choice) (item : ℕ) → is_placed (reverse done) item ≡ is_placed done item
@@ -125,7 +128,7 @@ reverse-more done rest c = ap (λ xs. xs ++ rest) (reverse-append (c ∷ []) don
 not-full : (isa : Isa) (problem : Problem) (done : List Choice) (c : Choice) → IsLegalNext isa problem done c → is_full problem.order done ≡ false
 not-full isa problem done c legal = false_from_ne_true (is_full problem.order done) (λ full.
     both_ways (is_placed done c.item) (not-true (is_placed done c.item) (keeps_rules isa problem done c legal.rules).l1)
-    (standing-passes (is_placed done) c.item problem.order legal.of.known full))
+    (standing-passes (is_placed done) problem.order c.item full legal.of.known))
 
 module _ (isa : Isa) (problem : Problem) (choices : List Choice) where
   -- what is listed under a choice
@@ -151,14 +154,6 @@ module _ (isa : Isa) (problem : Problem) (choices : List Choice) where
   listed-left (suc left) done some more =
       let less : left ≡ suc left - 1 = omega arith in
       listed-more left done more ∙ ap (λ n. flat_map (under n done) choices) less
-
-  -- a choice that breaks a rule is passed over
-  pub step-passed : (left : ℕ) (done : List Choice) (i : ℕ) (d : Choice) (best total : Found) → i < length choices → is_some (first_broken isa problem done (get_or choices i d)) ≡ true
-      → best_of problem best (flat_map (under left done) (drop i choices)) ≡ total → best_of problem best (flat_map (under left done) (drop (i + 1) choices)) ≡ total
-  step-passed left done i d best total within broken is =
-      sym (ap (λ xs. best_of problem best (flat_map (under left done) xs)) (drop_more choices i d within)
-      ∙ ap (λ b. best_of problem best ((if b then [] else listed isa problem choices left (get_or choices i d ∷ done)) ++ flat_map (under left done) (drop (i + 1) choices))) broken)
-      ∙ is
 
   -- what is listed under one that breaks none is offered
   pub step-taken : (left : ℕ) (done : List Choice) (i : ℕ) (d : Choice) (best next total : Found) → i < length choices → is_some (first_broken isa problem done (get_or choices i d)) ≡ false

@@ -1,5 +1,5 @@
 -- What the choices made so far have done, said by std's words on lists.
-use Rattle.std.proofs.Common.{◌≡◌, ℕ, ◌==◌, ◌||◌, true, false, List, [], ◌∷◌, slice_get, Option, None, Some, option_map, option_and_then, is_some, cond, reverse, refl, sym, ap, ◌∙◌}
+use Rattle.std.proofs.Common.{◌≡◌, ℕ, ◌==◌, ◌||◌, true, false, List, [], ◌∷◌, slice_get, Option, None, Some, option_and_then, is_some, cond, reverse, refl, sym, ap, ◌∙◌}
 use Rattle.std.specs.List.{find, list_any}
 use Rattle.std.proofs.lemmas.List.Sorted.{list_any-IsPermutation, IsPermutation-reverse}
 use Rattle.sl_model.specs.declared.register.Reg.{Reg}
@@ -47,11 +47,6 @@ held-find r [] = refl
 held-find r (c ∷ done) =
     elim (place_from 0 r (chosen c)) as (λ p. place_from 0 r (chosen c) ≡ p → output_or c.item p (held done r) ≡ held_by r (cond (is_some p) (Some c) (find (λ c. is_some (place_from 0 r (chosen c))) done)))
     [ None ↦ λ e. held-find r done | Some place ↦ λ e. sym (ap (λ p. output_or c.item p (Entry r)) e) ] refl
-
--- what an option holds, kept as it is
-pub option_map-same : (r o : Option Reg) → option_map (λ x. x) r ≡ o → r ≡ o
-option_map-same None o e = e
-option_map-same (Some x) o e = e
 
 -- where no choice writes a register
 pub held-nowhere : (r : Reg) (done : List Choice) → None ≡ find (λ c. is_some (place_from 0 r (chosen c))) done → Entry r ≡ held done r

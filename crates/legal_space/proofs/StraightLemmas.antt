@@ -1,38 +1,20 @@
 -- A straight problem, item by item.
-use Rattle.std.proofs.Common.{◌≡◌, ℕ, zero, suc, ◌+◌, ◌<◌, ◌≤◌, true, IsTrue, List, [], ◌∷◌, ◌++◌, length, map, filter, drop, take, reverse, get_or, not, Option, None, Some, refl, sym, ◌∙◌, ap, add-one, arith}
-use Rattle.std.specs.List.{filter_map, flat_map, list_all}
+use Rattle.std.proofs.Common.{◌≡◌, ℕ, zero, suc, ◌<◌, ◌≤◌, true, IsTrue, List, [], ◌∷◌, ◌++◌, length, map, filter, drop, take, reverse, get_or, not, Option, None, Some, refl, sym, ◌∙◌, ap, arith}
+use Rattle.std.specs.List.{filter_map, list_all}
 use Rattle.std.proofs.lemmas.Bool.{lt-ltb}
-use Rattle.std.proofs.lemmas.List.{append-nil, drop_all, map-append, length-reverse, length-take}
-use Rattle.std.proofs.lemmas.List.Elements.{filter-append}
+use Rattle.std.proofs.lemmas.List.{append-nil, drop_all, length-reverse, length-take}
 use Rattle.sl_model.specs.declared.register.Reg.{Reg}
 use Rattle.sl_model.specs.declared.instruction.Instr.{Instr}
 use Rattle.sl_model.specs.declared.schedule.Source.{Source}
 use Rattle.sl_model.specs.Source.{outputs, operands, item_at, place_from, output_or, source_of, list_sources}
 use Rattle.sl_model.specs.Cycles.{CostTable}
-use Rattle.sl_model.specs.Legal.{numbers_below, written, sources_in, straight_problem}
+use Rattle.sl_model.specs.Legal.{numbers_below, sources_in, straight_problem}
 use Rattle.legal_space.specs.Timed.{is_known_source}
-
-pub numbers-none : numbers_below 0 ≡ []
-unfolding numbers_below
-numbers-none = refl
-
--- one more number
-pub numbers-next : (n : ℕ) → numbers_below (n + 1) ≡ numbers_below n ++ n ∷ []
-unfolding numbers_below
-numbers-next n = ap (λ k. numbers_below k) (add-one n)
-
--- what is told of one more number
-pub map_numbers-next : {X : Type 0} (f : ℕ → X) (n : ℕ) → map f (numbers_below (n + 1)) ≡ map f (numbers_below n) ++ f n ∷ []
-map_numbers-next {X} f n = ap (λ ns. map f ns) (numbers-next n) ∙ map-append f (numbers_below n) (n ∷ [])
 
 -- where no output is left, all are there
 pub outputs-done : (outs : List (Option Reg)) (k : ℕ) (regs all : List Reg) → length outs ≤ k → regs ++ filter (λ r. not r.symbolic) (filter_map (λ r. r) (drop k outs)) ≡ all → regs ≡ all
 outputs-done outs k regs all past so_far =
     sym (append-nil regs) ∙ ap (λ rest. regs ++ filter (λ r. not r.symbolic) (filter_map (λ r. r) rest)) (sym (drop_all k outs past)) ∙ so_far
-
--- what an item writes stands before what those below it write
-pub written-cons : (i : Instr) (items : List Instr) → written (i ∷ items) ≡ filter (λ r. not r.symbolic) (outputs i) ++ written items
-written-cons i items = filter-append (λ r. not r.symbolic) (outputs i) (flat_map outputs items)
 
 -- an output of a known item, or else a known source
 known-or : (r : Reg) (items item : ℕ) (place : Option ℕ) (earlier : Source) → item < items → is_known_source items earlier ≡ true → is_known_source items (output_or item place earlier) ≡ true

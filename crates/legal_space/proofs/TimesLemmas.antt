@@ -1,7 +1,7 @@
 -- A schedule issued choice by choice: when operands are ready, the latest cycle of each item, and one more choice.
 use Rattle.std.proofs.Common.{◌≡◌, ◌≢◌, ℕ, zero, suc, ◌+◌, ◌*◌, ◌<◌, ◌≤◌, true, false, eqb, List, [], ◌∷◌, length, take, drop, reverse, replicate, set, get_or, max, nat_lt, nat_le, ◌&&◌, IsTrue, EachIndex, refl, sym, ◌∙◌, ap, ap₂, subst, ⊎_elim, arith}
 use Rattle.std.proofs.lemmas.Bool.{cases_Bool, eqb-true, eqb-false, ltb-true, leb-true, and_parts}
-use Rattle.std.proofs.lemmas.List.{drop_all, drop_more, take_more, reverse-append, length-set, length-replicate, get_or-set_same, get_or-set_other, get_or-replicate}
+use Rattle.std.proofs.lemmas.List.{drop_all, drop_more, length-set, length-replicate, get_or-set_same, get_or-set_other, get_or-replicate}
 use Rattle.std.specs.List.{list_all}
 use Rattle.std.proofs.lemmas.List.Folds.{list_all_at}
 use Rattle.sl_model.specs.declared.schedule.Choice.{Choice}
@@ -11,6 +11,7 @@ use Rattle.sl_model.specs.Legal.{Problem, sources_in}
 use Rattle.legal_space.specs.Above.{HasCycles}
 use Rattle.legal_space.specs.Listing.{is_known, are_known_sources}
 use Rattle.legal_space.specs.Timed.{is_known_source, HasKnownSources}
+use Rattle.sl_laws.proofs.Elements.{reverse_take-more}
 
 -- what one operand waits for and what those behind it wait for, taken one after the other
 max-swap : (now ready rest : ℕ) → max (max now ready) rest ≡ max ready (max now rest)
@@ -91,15 +92,11 @@ unfolding timed_from
 timed-first costs sources choices done rest c ready cycle at counted =
     ap (λ n. timed_from costs sources (c ∷ choices) (next_issued costs c n ∷ done) rest) (counted ∙ ap (λ r. next_cycle costs.width c.unit r done) at)
 
--- the choices up to one, the last first
-pub choices-more : (schedule : List Choice) (k : ℕ) (d : Choice) → k < length schedule → reverse (take (k + 1) schedule) ≡ get_or schedule k d ∷ reverse (take k schedule)
-choices-more schedule k d within = ap reverse (take_more schedule k d within) ∙ reverse-append (take k schedule) (get_or schedule k d ∷ [])
-
 -- past a choice the rest of the schedule is issued behind it
 pub timed-more : (costs : CostTable) (sources : ℕ → List Source) (schedule : List Choice) (done more : List Issued) (k ready cycle : ℕ) (d : Choice) → k < length schedule → ready ≡ ready_from costs (reverse (take k schedule)) done (get_or schedule k d).item 0 (sources (get_or schedule k d).item) → cycle ≡ next_cycle costs.width (get_or schedule k d).unit ready done → more ≡ next_issued costs (get_or schedule k d) cycle ∷ done
     → timed_from costs sources (reverse (take (k + 1) schedule)) more (drop (k + 1) schedule) ≡ timed_from costs sources (reverse (take k schedule)) done (drop k schedule)
 timed-more costs sources schedule done more k ready cycle d within at counted issued =
-    ap₂ (λ choices issued. timed_from costs sources choices issued (drop (k + 1) schedule)) (choices-more schedule k d within) issued
+    ap₂ (λ choices issued. timed_from costs sources choices issued (drop (k + 1) schedule)) (reverse_take-more schedule k d within) issued
     ∙ timed-first costs sources (reverse (take k schedule)) done (drop (k + 1) schedule) (get_or schedule k d) ready cycle at counted
     ∙ ap (λ rest. timed_from costs sources (reverse (take k schedule)) done rest) (sym (drop_more schedule k d within))
 

@@ -15,14 +15,17 @@ use Rattle.legal_space.specs.Timed.{is_known_source}
 -- Is each output of an item final, in its own register?
 abbrev pub are_outputs_final : Problem → ℕ → Bool
 are_outputs_final problem p =
-    list_all (λ x. is_final_in problem x.1 (Item p x.0)) (enumerate_from 0 (outputs (item_at problem.items p)))
+    list_all (λ x. is_final_in problem x.1 (Item p x.0))
+    (enumerate_from 0 (outputs (item_at problem.items p)))
 
 -- Are there at most four sources, and all known?
 abbrev pub are_known_sources : ℕ → List Source → Bool
-are_known_sources count sources = nat_le (length sources) 4 && list_all (is_known_source count) sources
+are_known_sources count sources =
+    nat_le (length sources) 4 && list_all (is_known_source count) sources
 
--- A problem whose schedules can be listed: it has at most 8 items, which stand in the order of their numbers, their
--- sources are known, and each output of each item is final in its own register.
+-- A problem whose schedules can be listed: it has at most 8 items, which stand in
+-- the order of their numbers, their sources are known, and each output of each
+-- item is final in its own register.
 pub record IsListable (isa : Isa) (problem : Problem) : Type 0 where
   pub testable : IsTestable isa problem
   pub few : length problem.items ≤ 8
@@ -36,11 +39,13 @@ is_known problem c = nat_lt c.item (length problem.items) && nat_lt c.unit 16
 
 -- an item on a unit, each output in its own register
 abbrev pub own_choice : Problem → ℕ → ℕ → Choice
-own_choice problem item unit = record { item = item; unit = unit; outs = (item_at problem.items item).outs }
+own_choice problem item unit =
+    record { item = item; unit = unit; outs = (item_at problem.items item).outs }
 
 -- an item on each unit of its class, below a number
 unfoldable pub choices_below : Problem → ℕ → ℕ → List Choice
-choices_below problem item units = filter (keeps_l6 problem) (map (own_choice problem item) (numbers_below units))
+choices_below problem item units =
+    filter (keeps_l6 problem) (map (own_choice problem item) (numbers_below units))
 
 -- an item on each unit of its class
 unfoldable pub own_choices : Problem → ℕ → List Choice
@@ -50,13 +55,14 @@ own_choices problem item = choices_below problem item 16
 unfoldable pub all_choices : Problem → List Choice
 all_choices problem = flat_map (own_choices problem) (numbers_below (length problem.items))
 
--- the full legal schedules that begin with the choices made so far, the last first, and go on with at most so many
--- choices out of a list
+-- the full legal schedules that begin with the choices made so far, the last first, and go on with
+-- at most so many choices out of a list
 unfoldable pub listed : Isa → Problem → List Choice → ℕ → List Choice → List (List Choice)
 listed isa problem choices zero done = if is_full problem.order done then reverse done ∷ [] else []
 listed isa problem choices (suc left) done =
     if is_full problem.order done then reverse done ∷ [] else
-    flat_map (λ c. if is_some (first_broken isa problem done c) then [] else listed isa problem choices left (c ∷ done)) choices
+    flat_map (λ c. if is_some (first_broken isa problem done c) then []
+    else listed isa problem choices left (c ∷ done)) choices
 
 -- The best schedule so far, and a limit that the stalls of a better one are below.
 pub record Found : Type 0 where
@@ -66,7 +72,9 @@ pub record Found : Type 0 where
 -- the best so far and one more schedule
 unfoldable pub better : Problem → Found → List Choice → Found
 better problem best next =
-    if nat_lt (stalls_of problem next) best.limit then record { limit = stalls_of problem next; schedule = next } else best
+    if nat_lt (stalls_of problem next) best.limit then
+    record { limit = stalls_of problem next; schedule = next }
+    else best
 
 -- the best so far and more schedules, one after the other
 unfoldable pub best_of : Problem → Found → List (List Choice) → Found

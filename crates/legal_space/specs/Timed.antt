@@ -13,4 +13,5 @@ is_known_source items (Item from place) = nat_lt from items
 -- The items of a problem have few operands, and each comes from an item of it or from a register.
 pub record HasKnownSources (problem : Problem) : Type 0 where
   pub few : (item : ℕ) → length (sources_in problem item) ≤ 256
-  pub known : (item : ℕ) → IsTrue (list_all (is_known_source (length problem.items)) (sources_in problem item))
+  pub known : (item : ℕ)
+      → IsTrue (list_all (is_known_source (length problem.items)) (sources_in problem item))

@@ -17,9 +17,9 @@ use sl_model::schedule::{Choice, Source};
 
 /// L5: each item that stands above it and conflicts with it is placed.
 pub fn keeps_l5<A: Arch>(arch: &A, problem: &Problem, done: &[Choice], choice: &Choice) -> bool
-    requires testable { IsTestable A.isa problem.now }
+    requires testable { IsTestable A.language.isa problem.now }
     requires known { choice.now.item < length problem.now.items }
-    ensures { result ≡ keeps_l5 A.isa problem.now (reverse done.now) choice.now }
+    ensures { result ≡ keeps_l5 A.language.isa problem.now (reverse done.now) choice.now }
 {
     let order = problem.order();
     for other in order {
@@ -35,10 +35,11 @@ pub fn keeps_l5<A: Arch>(arch: &A, problem: &Problem, done: &[Choice], choice: &
 
 // May an item come now, as far as one above it says?
 fn may_follow<A: Arch>(arch: &A, problem: &Problem, done: &[Choice], other: u16, item: u16) -> bool
-    requires testable { IsTestable A.isa problem.now }
+    requires testable { IsTestable A.language.isa problem.now }
     requires other { other < length problem.now.items }
     requires item { item < length problem.now.items }
-    ensures { result ≡ (not (conflict A.isa (body_of problem.now) other item) || is_placed (reverse done.now) other) }
+    ensures { result ≡ (not (conflict A.language.isa (body_of problem.now) other item)
+        || is_placed (reverse done.now) other) }
 {
     if !conflict(arch, problem, other, item) {
         return true;
@@ -49,10 +50,10 @@ fn may_follow<A: Arch>(arch: &A, problem: &Problem, done: &[Choice], other: u16,
 /// Do two accesses conflict: is at least one a store, and aren't they apart?
 #[tactic(auto, unfolding(sl_model::specs::Body::conflict))]
 pub fn conflict<A: Arch>(arch: &A, problem: &Problem, first: u16, second: u16) -> bool
-    requires testable { IsTestable A.isa problem.now }
+    requires testable { IsTestable A.language.isa problem.now }
     requires first { first < length problem.now.items }
     requires second { second < length problem.now.items }
-    ensures { result ≡ conflict A.isa (body_of problem.now) first second }
+    ensures { result ≡ conflict A.language.isa (body_of problem.now) first second }
 {
     let one = info_of(arch, problem, first);
     let two = info_of(arch, problem, second);
@@ -82,10 +83,10 @@ fn is_any_store(one: &FormInfo, two: &FormInfo) -> bool
 /// Are two accesses apart: by their tags, or by their ranges from one base?
 #[tactic(auto, unfolding(sl_model::specs::Body::are_apart))]
 pub fn are_apart<A: Arch>(arch: &A, problem: &Problem, first: u16, second: u16) -> bool
-    requires testable { IsTestable A.isa problem.now }
+    requires testable { IsTestable A.language.isa problem.now }
     requires first { first < length problem.now.items }
     requires second { second < length problem.now.items }
-    ensures { result ≡ are_apart A.isa (body_of problem.now) first second }
+    ensures { result ≡ are_apart A.language.isa (body_of problem.now) first second }
 {
     let one = item_of(problem, first);
     let two = item_of(problem, second);
@@ -118,9 +119,9 @@ fn tags_differ(one: Option<u16>, two: Option<u16>) -> bool
 
 // The source of the base of an item's access.
 fn base_source<A: Arch>(arch: &A, problem: &Problem, item: u16) -> Option<Source>
-    requires testable { IsTestable A.isa problem.now }
+    requires testable { IsTestable A.language.isa problem.now }
     requires known { item < length problem.now.items }
-    ensures { result ≡ base_source A.isa (body_of problem.now) item }
+    ensures { result ≡ base_source A.language.isa (body_of problem.now) item }
 {
     let Some(operand) = info_of(arch, problem, item).base else {
         return None;
@@ -141,7 +142,8 @@ fn same_base(one: Option<Source>, two: Option<Source>) -> bool
     same_source(one, two)
 }
 
-// Does one of two ranges of bytes, each given by its offset and its size, end before the other begins?
+// Does one of two ranges of bytes, each given by its offset and its
+// size, end before the other begins?
 fn ranges_disjoint(one: i64, size: u8, two: i64, other_size: u8) -> bool
     ensures { result ≡ ranges_disjoint one size two other_size }
 {

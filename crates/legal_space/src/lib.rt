@@ -4,10 +4,10 @@
 pub use listing::best_schedule;
 pub use placed::given;
 pub use problem::Problem;
-pub use sl_model::problem::Rule;
+pub use rules::first_broken;
+pub use sl_model::rules::Rule;
 pub use sl_model::schedule::{Choice, Source};
 pub use straight::written;
-pub use test::first_broken;
 pub use times::{Times, times_of};
 
 mod accesses;
@@ -18,7 +18,7 @@ mod outputs;
 mod placed;
 mod problem;
 mod registers;
+mod rules;
 pub mod sources;
 mod straight;
-mod test;
 mod times;

@@ -12,7 +12,7 @@ use crate::best::Best;
 use crate::operands::item_of;
 use crate::placed::is_placed;
 use crate::problem::Problem;
-use crate::test::{first_broken, has_unit};
+use crate::rules::{first_broken, has_unit};
 use sl_base::NoMemory;
 use sl_isa::Arch;
 use sl_model::schedule::Choice;
@@ -21,19 +21,20 @@ use std::alloc::{AllocError, Global};
 /// How many units a class may have.
 const UNITS: u8 = 16;
 
-/// The best schedule of the space of a problem of at most 8 items whose outputs are all final in their own registers: no
-/// member has fewer stalls, and none with as many comes before it. None where the space is empty, which has the
-/// schedules with at most so many stalls. Each of them is listed, so that the time grows fast with the items.
+/// The best schedule of the space of a problem of at most 8 items whose outputs are all final in
+/// their own registers: no member has fewer stalls, and none with as many comes before it. None
+/// where the space is empty, which has the schedules with at most so many stalls. Each of them is
+/// listed, so that the time grows fast with the items.
 pub fn best_schedule<A: Arch>(
     arch: &A,
     alloc: Global,
     problem: &Problem,
     most: u32,
 ) -> Result<Option<Vec<Choice>>, NoMemory>
-    requires { IsListable A.isa problem.now }
+    requires { IsListable A.language.isa problem.now }
     ensures { IfOk result (λ found. MatchOption found
-        ((x : List ChoiceValue) → InSpace A.isa problem.now most x → ⊥)
-        (λ best. IsBest A.isa problem.now most best.items)) }
+        ((x : List ChoiceValue) → InSpace A.language.isa problem.now most x → ⊥)
+        (λ best. IsBest A.language.isa problem.now most best.items)) }
 {
     let choices = all_choices(alloc, problem)?;
     let mut done = Vec::with_capacity(alloc, problem.len())?;
@@ -53,7 +54,8 @@ pub fn best_schedule<A: Arch>(
     Ok(Some(best.schedule))
 }
 
-// Offers each full legal schedule that begins with the choices made so far and goes on with at most so many more.
+// Offers each full legal schedule that begins with the choices made so far and
+// goes on with at most so many more.
 #[tactic(auto, unfolding(crate::specs::Listing::listed))]
 fn extend<A: Arch>(
     arch: &A,
@@ -64,14 +66,16 @@ fn extend<A: Arch>(
     done: &mut Vec<Choice>,
     best: &mut Best,
 ) -> Result<(), NoMemory>
-    requires listable { IsListable A.isa problem.now }
+    requires listable { IsListable A.language.isa problem.now }
     requires choices { list_all (is_known problem.now) choices.now ≡ true }
     requires known { list_all (is_known problem.now) done.old.items ≡ true }
     requires few { length done.old.items + left ≤ 8 }
     requires room { length done.old.items + left ≤ vec_capacity done.old }
     ensures done { OnOk result (done.new.items ≡ done.old.items) }
     ensures room { vec_capacity done.new ≡ vec_capacity done.old }
-    ensures best { OnOk result (best.new ≡ best_of problem.now best.old (listed A.isa problem.now choices.now left (reverse done.old.items))) }
+    ensures best { OnOk result
+        (best.new ≡ best_of problem.now best.old
+        (listed A.language.isa problem.now choices.now left (reverse done.old.items))) }
 {
     if is_full(problem, done) {
         return best.offer(alloc, problem, done);
@@ -102,7 +106,8 @@ fn all_choices(alloc: Global, problem: &Problem) -> Result<Vec<Choice>, NoMemory
     requires few { length problem.now.items ≤ 8 }
     requires rows { length problem.now.costs.rows ≡ length problem.now.items }
     ensures are { IfOk result (λ choices. choices.items ≡ all_choices problem.now) }
-    ensures few_units { OnOk result ((p : ℕ) → p < length problem.now.items → (row_of problem.now.costs p).units < 2 ^ 16) }
+    ensures few_units { OnOk result
+        ((p : ℕ) → p < length problem.now.items → (row_of problem.now.costs p).units < 2 ^ 16) }
 {
     let mut choices = Vec::new(alloc);
     for item in 0..problem.len() as u16 {

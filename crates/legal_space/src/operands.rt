@@ -8,9 +8,8 @@ ghost use Rattle.legal_space.specs.Testable.{IsTestable};
 
 use crate::placed::{given, is_still_held};
 use crate::problem::Problem;
-use crate::registers::same_reg;
-use sl_isa::Arch;
 use sl_isa::sets::set_has;
+use sl_isa::{Arch, same_reg};
 use sl_model::instruction::{FormInfo, Instr};
 use sl_model::register::{Reg, RegSet};
 use sl_model::schedule::{Choice, Source};
@@ -25,18 +24,19 @@ pub fn item_of(problem: &Problem, item: u16) -> Instr
 
 /// What the table says of an item's form.
 pub fn info_of<A: Arch>(arch: &A, problem: &Problem, item: u16) -> FormInfo
-    requires testable { IsTestable A.isa problem.now }
+    requires testable { IsTestable A.language.isa problem.now }
     requires known { item < length problem.now.items }
-    ensures { result ≡ A.isa.info (item_at problem.now.items item).form }
+    ensures { result ≡ A.language.isa.info (item_at problem.now.items item).form }
 {
     arch.info(item_of(problem, item).form)
 }
 
-/// L2: each operand's source is placed or an entry, its register still holds it and is of the operand's class.
+/// L2: each operand's source is placed or an entry, its register still holds it
+/// and is of the operand's class.
 pub fn keeps_l2<A: Arch>(arch: &A, problem: &Problem, done: &[Choice], choice: &Choice) -> bool
-    requires testable { IsTestable A.isa problem.now }
+    requires testable { IsTestable A.language.isa problem.now }
     requires known { choice.now.item < length problem.now.items }
-    ensures { result ≡ keeps_l2 A.isa problem.now (reverse done.now) choice.now }
+    ensures { result ≡ keeps_l2 A.language.isa problem.now (reverse done.now) choice.now }
 {
     let info = info_of(arch, problem, choice.item);
     are_held_in(done, problem.sources_of(choice.item), &info.in_sets)
@@ -67,9 +67,9 @@ fn is_held_in(done: &[Choice], source: Source, set: RegSet) -> bool
 
 /// L3: a tied output is in the register of its input.
 pub fn keeps_l3<A: Arch>(arch: &A, problem: &Problem, done: &[Choice], choice: &Choice) -> bool
-    requires testable { IsTestable A.isa problem.now }
+    requires testable { IsTestable A.language.isa problem.now }
     requires known { choice.now.item < length problem.now.items }
-    ensures { result ≡ keeps_l3 A.isa problem.now (reverse done.now) choice.now }
+    ensures { result ≡ keeps_l3 A.language.isa problem.now (reverse done.now) choice.now }
 {
     let info = info_of(arch, problem, choice.item);
     choice

@@ -11,18 +11,19 @@ ghost use Rattle.legal_space.specs.Testable.{IsTestable};
 use crate::operands::{info_of, item_of};
 use crate::placed::{held, is_output, is_placed, same_source};
 use crate::problem::Problem;
-use crate::registers::{are_alike, same_reg};
-use sl_isa::Arch;
+use crate::registers::are_alike;
 use sl_isa::sets::set_has;
+use sl_isa::{Arch, same_reg};
 use sl_model::register::{Reg, RegSet};
 use sl_model::schedule::{Choice, Source};
 
-/// L4: each output's register is allowed for the item, of the output's class and of the class of each operand that reads
-/// it; the outputs differ; a final value is in its final register; the flags are in flags.
+/// L4: each output's register is allowed for the item, of the output's class and of the
+/// class of each operand that reads it; the outputs differ; a final value is in its final
+/// register; the flags are in flags.
 pub fn keeps_l4<A: Arch>(arch: &A, problem: &Problem, choice: &Choice) -> bool
-    requires testable { IsTestable A.isa problem.now }
+    requires testable { IsTestable A.language.isa problem.now }
     requires known { choice.now.item < length problem.now.items }
-    ensures { result ≡ keeps_l4 A.isa problem.now choice.now }
+    ensures { result ≡ keeps_l4 A.language.isa problem.now choice.now }
 {
     if !suit_outputs(arch, problem, choice) {
         return false;
@@ -32,9 +33,10 @@ pub fn keeps_l4<A: Arch>(arch: &A, problem: &Problem, choice: &Choice) -> bool
 
 // May all outputs go to their registers, as far as sets and finals say?
 fn suit_outputs<A: Arch>(arch: &A, problem: &Problem, choice: &Choice) -> bool
-    requires testable { IsTestable A.isa problem.now }
+    requires testable { IsTestable A.language.isa problem.now }
     requires known { choice.now.item < length problem.now.items }
-    ensures { result ≡ list_all (suits_output A.isa problem.now choice.now.item) (output_classes A.isa problem.now choice.now) }
+    ensures { result ≡ list_all (suits_output A.language.isa problem.now choice.now.item)
+        (output_classes A.language.isa problem.now choice.now) }
 {
     let info = info_of(arch, problem, choice.item);
     let own = item_of(problem, choice.item);
@@ -60,8 +62,8 @@ fn suits_output<A: Arch>(
     set: RegSet,
     own: Reg,
 ) -> bool
-    requires testable { IsTestable A.isa problem.now }
-    ensures { result ≡ suits_output A.isa problem.now item (place, ((reg, set), own)) }
+    requires testable { IsTestable A.language.isa problem.now }
+    ensures { result ≡ suits_output A.language.isa problem.now item (place, ((reg, set), own)) }
 {
     if !set_has(problem.allowed_for(item), reg) {
         return false;
@@ -80,8 +82,8 @@ fn suits_output<A: Arch>(
 
 // Is a register of the class of each operand that reads an output?
 fn suits_readers<A: Arch>(arch: &A, problem: &Problem, item: u16, place: usize, reg: Reg) -> bool
-    requires testable { IsTestable A.isa problem.now }
-    ensures { result ≡ suits_readers A.isa problem.now (Item item place) reg }
+    requires testable { IsTestable A.language.isa problem.now }
+    ensures { result ≡ suits_readers A.language.isa problem.now (Item item place) reg }
 {
     let order = problem.order();
     for reader in order {
@@ -95,7 +97,8 @@ fn suits_readers<A: Arch>(arch: &A, problem: &Problem, item: u16, place: usize, 
 
 // Is a register of the class of each of an item's operands that reads an output?
 fn suits_operands(sources: &[Source], sets: &[RegSet], item: u16, place: usize, reg: Reg) -> bool
-    ensures { result ≡ list_all (λ x. not (same_source x.0 (Item item place)) || set_has x.1 reg) (zip sources.now sets.now) }
+    ensures { result ≡ list_all (λ x. not (same_source x.0 (Item item place)) || set_has x.1 reg)
+        (zip sources.now sets.now) }
 {
     sources.iter().zip(sets).all(|(source, set)| suits_operand(*source, *set, item, place, reg))
 }
@@ -151,7 +154,8 @@ fn is_among(outs: &[Option<Reg>], reg: Reg) -> bool
         .any(|out| same_reg(out, reg))
 }
 
-/// L7: no output goes to a register that holds a value which is final there, or which an unplaced item reads.
+/// L7: no output goes to a register that holds a value which is final there,
+/// or which an unplaced item reads.
 pub fn keeps_l7(problem: &Problem, done: &[Choice], choice: &Choice) -> bool
     ensures { result ≡ keeps_l7 problem.now (reverse done.now) choice.now }
 {
@@ -205,7 +209,9 @@ fn is_still_read(problem: &Problem, done: &[Choice], item: u16, value: Source) -
 
 // Is an item another one than this, still unplaced, and does it read a value?
 fn is_reader(problem: &Problem, done: &[Choice], item: u16, reader: u16, value: Source) -> bool
-    ensures { result ≡ (not (reader == item) && (not (is_placed (reverse done.now) reader) && list_any (same_source value) (sources_in problem.now reader))) }
+    ensures { result ≡ (not (reader == item)
+        && (not (is_placed (reverse done.now) reader)
+        && list_any (same_source value) (sources_in problem.now reader))) }
 {
     if reader == item {
         return false;

@@ -6,8 +6,7 @@ ghost use Rattle.sl_model.specs.declared.schedule.Source.TheVariants.{Entry, Ite
 ghost use Rattle.sl_model.specs.Source.{place_from};
 ghost use Rattle.sl_model.specs.Body.{chosen, is_placed, held, placed_in, given, same_source, holds_in, is_still_held};
 
-use crate::registers::same_reg;
-use crate::sources::place_among;
+use sl_isa::{place_among, same_reg};
 use sl_model::register::Reg;
 use sl_model::schedule::{Choice, Source};
 
@@ -73,7 +72,8 @@ pub fn held(done: &[Choice], reg: Reg) -> Source
 
 // The last choice with an output in a register.
 fn last_writer(done: &[Choice], reg: Reg) -> Option<&Choice>
-    ensures { option_copied result ≡ find (λ c. is_some (place_from 0 reg (chosen c))) (reverse done.now) }
+    ensures { option_copied result
+        ≡ find (λ c. is_some (place_from 0 reg (chosen c))) (reverse done.now) }
 {
     done.iter()
         .rev()

@@ -38,9 +38,10 @@ impl Model for Problem {
 }
 
 impl Problem {
-    /// A problem of these parts: the items, the order in which they stand, the sources of each item's operands, the
-    /// registers with the value that must stand in them at the end, the registers that each item may write, what the
-    /// items cost, and whether they are the body of a loop. It takes no memory.
+    /// A problem of these parts: the items, the order in which they stand, the sources of each
+    /// item's operands, the registers with the value that must stand in them at the end, the
+    /// registers that each item may write, what the items cost, and whether they are the body
+    /// of a loop. It takes no memory.
     pub fn of_parts(
         items: Vec<Instr>,
         order: Vec<u16>,

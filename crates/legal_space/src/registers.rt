@@ -1,17 +1,9 @@
 //! Registers.
 ghost use Rattle.std.specs.Prelude.{◌≡◌};
-ghost use Rattle.sl_model.specs.Register.{same_reg, same_bool};
+ghost use Rattle.sl_model.specs.Register.{same_bool};
 ghost use Rattle.sl_model.specs.Legal.{is_flags};
 
 use sl_model::register::{Bank, Reg};
-
-/// Are these two names of one register?
-#[tactic(auto, unfolding(sl_model::specs::Register::same_reg))]
-pub fn same_reg(a: Reg, b: Reg) -> bool
-    ensures { result ≡ same_reg a b }
-{
-    a == b
-}
 
 /// Is a register the flags?
 pub fn is_flags(reg: Reg) -> bool

@@ -18,8 +18,9 @@ use sl_model::schedule::Source;
 use std::alloc::{AllocError, Global};
 
 impl Problem {
-    /// The straight problem of items, at most 65535: its own order and sources; each live register is final with its
-    /// last writer; the registers that the items write, and the free ones, are allowed.
+    /// The straight problem of items, at most 65535: its own order and sources; each
+    /// live register is final with its last writer; the registers that the items write,
+    /// and the free ones, are allowed.
     pub fn straight(
         alloc: Global,
         items: Vec<Instr>,
@@ -28,7 +29,8 @@ impl Problem {
         costs: Costs,
     ) -> Result<Problem, NoMemory>
         requires { length items.items ≤ 65535 }
-        ensures straight { IfOk result (λ problem. problem ≡ straight_problem items.items live.now free.now costs) }
+        ensures straight { IfOk result
+            (λ problem. problem ≡ straight_problem items.items live.now free.now costs) }
         ensures sources { IfOk result (λ problem. HasKnownSources problem) }
     {
         let order = numbers_below(alloc, items.len() as u16)?;
@@ -71,8 +73,11 @@ fn sources_at(alloc: Global, items: &[Instr], place: usize) -> Result<Vec<Source
 /// The sources of the operands of each item.
 fn all_sources(alloc: Global, items: &[Instr]) -> Result<Vec<Vec<Source>>, NoMemory>
     requires { length items.now ≤ 65535 }
-    ensures sources { IfOk result (λ all. map (λ v. v.items) all.items ≡ map (list_sources items.now) (numbers_below (length items.now))) }
-    ensures few { IfOk result (λ all. (item : ℕ) → length (slice_index_or (map (λ v. v.items) all.items) item []) ≤ 4) }
+    ensures sources { IfOk result
+        (λ all. map (λ v. v.items) all.items
+        ≡ map (list_sources items.now) (numbers_below (length items.now))) }
+    ensures few { IfOk result
+        (λ all. (item : ℕ) → length (slice_index_or (map (λ v. v.items) all.items) item []) ≤ 4) }
 {
     let mut all = Vec::new(alloc);
     for place in 0..items.len() {
@@ -86,7 +91,8 @@ fn all_sources(alloc: Global, items: &[Instr]) -> Result<Vec<Vec<Source>>, NoMem
 #[tactic(auto, unfolding(sl_model::specs::Source::last_source))]
 fn finals_of(alloc: Global, items: &[Instr], live: &[Reg]) -> Result<Vec<(Reg, Source)>, NoMemory>
     requires { length items.now ≤ 65535 }
-    ensures { IfOk result (λ finals. finals.items ≡ map (λ r. (r, last_source items.now r)) live.now) }
+    ensures { IfOk result
+        (λ finals. finals.items ≡ map (λ r. (r, last_source items.now r)) live.now) }
 {
     let finals = live
         .iter()
@@ -97,7 +103,8 @@ fn finals_of(alloc: Global, items: &[Instr], live: &[Reg]) -> Result<Vec<(Reg, S
 
 /// The registers that each item may write: those that the items write, and the free ones.
 fn allowed_of(alloc: Global, items: &[Instr], free: &[Reg]) -> Result<Vec<RegSet>, NoMemory>
-    ensures { IfOk result (λ allowed. allowed.items ≡ map (λ i. set_of (written items.now ++ free.now)) items.now) }
+    ensures { IfOk result
+        (λ allowed. allowed.items ≡ map (λ i. set_of (written items.now ++ free.now)) items.now) }
 {
     let mut regs = written(alloc, items)?;
     regs.extend_from_slice(free)?;
@@ -119,7 +126,9 @@ pub fn written(alloc: Global, items: &[Instr]) -> Result<Vec<Reg>, NoMemory>
 
 /// Puts the concrete registers among outputs, with empty ones, behind others.
 fn add_concrete(regs: &mut Vec<Reg>, outs: &[Option<Reg>]) -> Result<(), NoMemory>
-    ensures { OnOk result (regs.new.items ≡ regs.old.items ++ filter (λ r. not r.symbolic) (filter_map (λ r. r) outs.now)) }
+    ensures { OnOk result
+        (regs.new.items ≡ regs.old.items
+        ++ filter (λ r. not r.symbolic) (filter_map (λ r. r) outs.now)) }
 {
     for out in outs {
         let Some(reg) = out else {
@@ -130,56 +139,4 @@ fn add_concrete(regs: &mut Vec<Reg>, outs: &[Option<Reg>]) -> Result<(), NoMemor
         }
     }
     Ok(())
-}
-
-#[cfg(test)]
-mod tests {
-    use super::*;
-    use sl_model::register::Bank;
-    use std::test::Fail;
-
-    /// A general register.
-    const fn general(number: u16) -> Reg {
-        Reg {
-            bank: Bank::General,
-            symbolic: false,
-            number,
-        }
-    }
-
-    /// An instruction that reads two registers and writes one.
-    fn sum_of(out: u16, left: u16, right: u16) -> Instr {
-        Instr {
-            form: 0,
-            wide: false,
-            imms: [0; 3],
-            ins: [Some(general(left)), Some(general(right)), None, None],
-            outs: [Some(general(out)), None, None],
-            tag: None,
-            early: false,
-            late: false,
-            line: 1,
-        }
-    }
-
-    #[test]
-    fn a_chain_reads_what_stands_above(rt: HostRuntime) -> Result<(), Fail> {
-        let alloc = rt.alloc();
-        let items = vec![in alloc; sum_of(2, 1, 0), sum_of(3, 2, 1), sum_of(2, 3, 2)]?;
-        assert_eq!(rt; set_of(&written(alloc, &items)?).bits, 0b1100);
-        let costs = Costs::new(alloc, 1, &[], &[])?;
-        let live = [general(2), general(9)];
-        let problem = Problem::straight(alloc, items, &live, &[general(5)], costs)?;
-        assert_eq!(rt; (problem.len(), problem.order()), (3, &[0, 1, 2][..]));
-        let first = Source::Item { index: 0, place: 0 };
-        let second = Source::Item { index: 1, place: 0 };
-        let last = Source::Item { index: 2, place: 0 };
-        let entry = Source::Entry(general(1));
-        assert_eq!(rt; problem.sources_of(1), &[first, entry][..]);
-        assert_eq!(rt; problem.sources_of(2), &[second, first][..]);
-        let finals = [(live[0], last), (live[1], Source::Entry(live[1]))];
-        assert_eq!(rt; problem.finals(), &finals[..]);
-        assert_eq!(rt; problem.allowed_for(1).bits, 0b10_1100);
-        Ok(())
-    }
 }

@@ -26,17 +26,22 @@ pub struct Times {
     pub stalls: u32,
 }
 
-/// When the items of a schedule are issued, one choice after the other. The schedule has at most 65536 choices, each of
-/// an item of the problem and a unit below 16, and each item has a row in the costs. An operand waits for no item that
-/// isn't issued yet. The only error is want of memory.
+/// When the items of a schedule are issued, one choice after the other. The schedule has at most
+/// 65536 choices, each of an item of the problem and a unit below 16, and each item has a row in
+/// the costs. An operand waits for no item that isn't issued yet. The only error is want of memory.
 pub fn times_of(alloc: Global, problem: &Problem, schedule: &[Choice]) -> Result<Times, NoMemory>
     requires few { length schedule.now ≤ 65536 }
     requires rows { length problem.now.costs.rows ≡ length problem.now.items }
     requires sources { HasKnownSources problem.now }
-    requires known { IsTrue (list_all (λ c. nat_lt c.item (length problem.now.items)) schedule.now) }
+    requires known { IsTrue
+        (list_all (λ c. nat_lt c.item (length problem.now.items)) schedule.now) }
     requires units { IsTrue (list_all (λ c. nat_lt c.unit 16) schedule.now) }
-    ensures cycles { IfOk result (λ times. times.cycles.items ≡ cycles_of (timed problem.now.costs (sources_in problem.now) schedule.now)) }
-    ensures count { IfOk result (λ times. times.count ≡ cycle_count (timed problem.now.costs (sources_in problem.now) schedule.now)) }
+    ensures cycles { IfOk result
+        (λ times. times.cycles.items
+        ≡ cycles_of (timed problem.now.costs (sources_in problem.now) schedule.now)) }
+    ensures count { IfOk result
+        (λ times. times.count
+        ≡ cycle_count (timed problem.now.costs (sources_in problem.now) schedule.now)) }
     ensures stalls { IfOk result (λ times. times.stalls ≡ stalls_of problem.now schedule.now) }
 {
     let mut issue = Issue::with_room(alloc, schedule.len())?;
@@ -51,8 +56,8 @@ pub fn times_of(alloc: Global, problem: &Problem, schedule: &[Choice]) -> Result
     })
 }
 
-// Issues the choices of a schedule, one after the other, and gives their cycles. `latest` has the cycle of each item that
-// was issued, and 0 for the others.
+// Issues the choices of a schedule, one after the other, and gives their cycles. `latest` has the
+// cycle of each item that was issued, and 0 for the others.
 fn issue_all(
     alloc: Global,
     problem: &Problem,
@@ -63,12 +68,16 @@ fn issue_all(
     requires few { length schedule.now ≤ 65536 }
     requires rows { length problem.now.costs.rows ≡ length problem.now.items }
     requires sources { HasKnownSources problem.now }
-    requires known { IsTrue (list_all (λ c. nat_lt c.item (length problem.now.items)) schedule.now) }
+    requires known { IsTrue
+        (list_all (λ c. nat_lt c.item (length problem.now.items)) schedule.now) }
     requires units { IsTrue (list_all (λ c. nat_lt c.unit 16) schedule.now) }
     requires empty { issue.old ≡ record { pushes = []; room = length schedule.now } }
     requires none { latest.old ≡ replicate (length problem.now.items) 0 }
-    ensures cycles { IfOk result (λ cycles. cycles.items ≡ cycles_of (timed problem.now.costs (sources_in problem.now) schedule.now)) }
-    ensures issued { OnOk result (issued issue.new.pushes ≡ timed problem.now.costs (sources_in problem.now) schedule.now) }
+    ensures cycles { IfOk result
+        (λ cycles. cycles.items
+        ≡ cycles_of (timed problem.now.costs (sources_in problem.now) schedule.now)) }
+    ensures issued { OnOk result
+        (issued issue.new.pushes ≡ timed problem.now.costs (sources_in problem.now) schedule.now) }
     ensures count { OnOk result (length (issued issue.new.pushes) ≡ length schedule.now) }
 {
     let costs = problem.costs();
@@ -91,8 +100,10 @@ fn ready_among(costs: &Costs, cycles: &[u32], item: u16, sources: &[Source]) -> 
     requires known { IsTrue (list_all (is_known_source (length cycles.now)) sources.now) }
     requires early { EachIndex cycles.now (λ q. slice_index cycles.now q ≤ 2 ^ 29) }
     ensures ready { (choices : List Choice) (done : List Issued) →
-        HasCycles cycles.now choices done → result ≡ ready_from costs.now choices done item 0 sources.now }
-    ensures early { (limit : ℕ) → EachIndex cycles.now (λ q. slice_index cycles.now q ≤ limit) → result ≤ limit + 255 }
+        HasCycles cycles.now choices done
+        → result ≡ ready_from costs.now choices done item 0 sources.now }
+    ensures early { (limit : ℕ) → EachIndex cycles.now (λ q. slice_index cycles.now q ≤ limit)
+        → result ≤ limit + 255 }
 {
     let mut ready = 0;
     for (operand, source) in sources.iter().enumerate() {
@@ -108,8 +119,10 @@ fn ready_at(costs: &Costs, cycles: &[u32], item: u16, operand: u8, source: Sourc
     requires known { IsTrue (is_known_source (length cycles.now) source) }
     requires early { EachIndex cycles.now (λ q. slice_index cycles.now q ≤ 2 ^ 29) }
     ensures ready { (choices : List Choice) (done : List Issued) →
-        HasCycles cycles.now choices done → result ≡ ready_at costs.now choices done item operand source }
-    ensures early { (limit : ℕ) → EachIndex cycles.now (λ q. slice_index cycles.now q ≤ limit) → result ≤ limit + 255 }
+        HasCycles cycles.now choices done
+        → result ≡ ready_at costs.now choices done item operand source }
+    ensures early { (limit : ℕ) → EachIndex cycles.now (λ q. slice_index cycles.now q ≤ limit)
+        → result ≤ limit + 255 }
 {
     match source {
         Source::Entry(_) => 0,
@@ -123,89 +136,10 @@ fn ready_at(costs: &Costs, cycles: &[u32], item: u16, operand: u8, source: Sourc
 fn stalls(items: usize, width: u8, cycles: u32) -> u32
     requires few { items ≤ 65536 }
     requires width { 1 ≤ width }
-    ensures { (done : List Issued) → length done ≡ items → cycle_count done ≡ cycles → result ≡ stalls width done }
+    ensures { (done : List Issued) → length done ≡ items → cycle_count done ≡ cycles
+        → result ≡ stalls width done }
 {
     let width = u32::from(width);
     let filled = (items as u32 + width - 1) / width;
     cycles.saturating_sub(filled)
-}
-
-#[cfg(test)]
-mod tests {
-    use super::*;
-    use issue_cost::CostRow;
-    use sl_model::instruction::Instr;
-    use sl_model::register::{Bank, Reg};
-    use std::process::Abort;
-    use std::test::Fail;
-
-    /// An item whose result is ready after 2 cycles.
-    const ROW: CostRow = CostRow {
-        class: 0,
-        units: 1,
-        busy: 1,
-        latency: 2,
-        writeback: 2,
-        back: None,
-    };
-
-    /// An instruction that reads a register and writes one.
-    fn copy_of(out: u16, from: u16) -> Instr {
-        let general = |number: u16| Reg {
-            bank: Bank::General,
-            symbolic: false,
-            number,
-        };
-        Instr {
-            form: 0,
-            wide: false,
-            imms: [0; 3],
-            ins: [Some(general(from)), None, None, None],
-            outs: [Some(general(out)), None, None],
-            tag: None,
-            early: false,
-            late: false,
-            line: 1,
-        }
-    }
-
-    /// The times of three items in an order.
-    fn times_in(
-        rt: &impl Abort,
-        alloc: Global,
-        problem: &Problem,
-        order: [u16; 3],
-    ) -> Result<Times, NoMemory>
-        requires items { length problem.now.items ≡ 3 }
-        requires rows { length problem.now.costs.rows ≡ 3 }
-        requires sources { HasKnownSources problem.now }
-    {
-        let [first, second, third] = order;
-        assert!(rt; first < 3 && second < 3 && third < 3);
-        let schedule = [first, second, third].map(|item| Choice {
-            item,
-            unit: 0,
-            outs: [None; 3],
-        });
-        times_of(alloc, problem, &schedule)
-    }
-
-    #[test]
-    fn an_item_waits_for_what_was_issued_before(rt: HostRuntime) -> Result<(), Fail> {
-        let alloc = rt.alloc();
-        let items = vec![in alloc; copy_of(1, 0), copy_of(2, 1), copy_of(3, 0)]?;
-        let costs = Costs::new(alloc, 1, &[ROW; 3], &[])?;
-        let problem = Problem::straight(alloc, items, &[], &[], costs)?;
-        let cases = [
-            ("as they stand", [0, 1, 2], [0, 2, 3], (4, 1)),
-            ("one between", [0, 2, 1], [0, 1, 2], (3, 0)),
-            ("before its source", [1, 0, 2], [2, 3, 4], (5, 2)),
-        ];
-        for (name, order, cycles, counts) in cases {
-            let times = times_in(&rt, alloc, &problem, order)?;
-            assert_eq!(rt; times.cycles.as_slice(), &cycles[..], "{name}");
-            assert_eq!(rt; (times.count, times.stalls), counts, "{name}");
-        }
-        Ok(())
-    }
 }

@@ -1,7 +1,7 @@
+pub mod ForCallers
 pub mod Maps
 pub mod Entries
 pub mod Undo
 pub mod Fitting
 pub mod Stepping
 pub mod Wrapped
-pub mod FewLemmas

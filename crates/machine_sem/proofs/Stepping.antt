@@ -2,20 +2,22 @@
 use Rattle.std.proofs.Common.{◌≡◌, ℕ, zero, suc, ◌+◌, ◌≤◌, ◌<◌, Bool, true, false, not, List, [], ◌∷◌, length, take, Option, Some, None, IfSome, Result, Ok, Err, OnOk, OnErr, slice_index_or, add-one, refl, sym, ap, subst, ◌∙◌, arith}
 use Rattle.std.specs.Prelude.{if◌then◌else◌}
 use Rattle.std.specs.Ordering.{nat_cmp}
-use Rattle.std.specs.List.{filter_map}
 use Rattle.std.specs.FinMap.{FinMap}
 use Rattle.sl_model.specs.declared.register.Reg.{Reg}
 use Rattle.sl_model.specs.declared.instruction.Access.{Access}
 use Rattle.sl_model.specs.declared.instruction.ArchName.{ArchName}
 use Rattle.sl_model.specs.declared.instruction.Instr.{Instr}
-use Rattle.sl_model.specs.Source.{outputs, padded}
+use Rattle.sl_model.specs.Source.{outputs}
 use Rattle.sl_model.specs.State.{State, write, write_all, load, store}
 use Rattle.sl_model.specs.Machine.{space_of}
 use Rattle.sl_model.specs.Isa.{Isa, op_of}
-use Rattle.sl_model.specs.Exec.{has_access, is_load, is_store, address_of, loaded_by, values_of, memory_after, operand_values, exec, run}
-use Rattle.sl_model.specs.Lawful.{IsValid, IsLawful, load_size}
+use Rattle.sl_model.specs.Exec.{has_access, is_store, address_of, loaded_by, values_of, memory_after, operand_values, exec, run}
+use Rattle.sl_model.specs.Lawful.{IsValid, IsLawful}
 use Rattle.sl_isa.specs.Arch.{padded_values, access_of, stored_by, AreOperands}
 use Rattle.machine_sem.specs.Moves.{loaded_at, stored_at}
+use Rattle.sl_laws.proofs.Padded.{length-padded}
+use Rattle.sl_laws.proofs.Elements.{length-filter_map}
+use Rattle.sl_laws.proofs.State.{length-loaded_by}
 
 -- the access that a form has
 abbrev pub access_if : Bool → Bool → ℕ → ℕ → Option Access
@@ -58,53 +60,22 @@ write_padded n (r ∷ regs) [] s e h = absurd (none_is e)
 write_padded zero (r ∷ regs) (value ∷ values) s e h = absurd (none_below h)
 write_padded (suc n) (r ∷ regs) (value ∷ values) s e h = write_padded n regs values (write r value s) (same_both e) (below_both h)
 
-length_padded : (n : ℕ) (regs : List Reg) → length (padded n regs) ≡ n
-length_padded zero regs = refl
-length_padded (suc n) [] = ap suc (length_padded n [])
-length_padded (suc n) (r ∷ regs) = ap suc (length_padded n regs)
-
-one_more_place : {m n : ℕ} → m ≤ n → m ≤ suc n
-one_more_place h = omega (arith, h)
-
-both_more : {m n : ℕ} → m ≤ n → suc m ≤ suc n
-both_more h = omega (arith, h)
-
-length_chosen : (places : List (Option Reg)) → length (filter_map (λ r. r) places) ≤ length places
-length_chosen [] = omega arith
-length_chosen (None ∷ places) = one_more_place (length_chosen places)
-length_chosen (Some r ∷ places) = both_more (length_chosen places)
-
-length_load : (space : ℕ) (m : FinMap nat_cmp ℕ) (address size : ℕ) → length (load space m address size) ≡ size
-unfolding load
-length_load space m address zero = refl
-length_load space m address (suc size) = ap suc (length_load space m (address + 1) size)
-
-length_if : (loads : Bool) (space : ℕ) (m : FinMap nat_cmp ℕ) (address size : ℕ) → length (if loads then load space m address size else []) ≡ (if loads then size else 0)
-length_if true space m address size = length_load space m address size
-length_if false space m address size = refl
-
 module _ (isa : Isa) (lawful : IsLawful isa) (i : Instr) (valid : IsValid isa i) where
   pub loaded_is : (ins : List ℕ) (m : FinMap nat_cmp ℕ) → loaded_at (space_of isa.name) (access_of isa i ins) m ≡ loaded_by isa i ins m
   unfolding access_of loaded_by
   loaded_is ins m =
-      ap (λ space. loaded_at space (access_of isa i ins) m) (sym lawful.spaces)
-      ∙ loaded_cases (has_access (isa.info i.form)) (isa.info i.form).store isa.space (address_of isa i ins) (isa.info i.form).size m
+      loaded_cases (has_access (isa.info i.form)) (isa.info i.form).store (space_of isa.name) (address_of isa i ins) (isa.info i.form).size m
 
   pub stored_is : (ins : List ℕ) (m : FinMap nat_cmp ℕ) → AreOperands isa i ins → stored_at (space_of isa.name) (access_of isa i ins) (padded_values 32 (stored_by isa i ins)) m ≡ memory_after isa i ins m
   unfolding access_of stored_by memory_after
   stored_is ins m are =
-      ap (λ space. stored_at space (access_of isa i ins) (padded_values 32 (stored_by isa i ins)) m) (sym lawful.spaces)
-      ∙ stored_cases (has_access (isa.info i.form)) (isa.info i.form).store isa.space (address_of isa i ins) (isa.info i.form).size (isa.stored (op_of i) ins) m (λ is.
+      stored_cases (has_access (isa.info i.form)) (isa.info i.form).store (space_of isa.name) (address_of isa i ins) (isa.info i.form).size (isa.stored (op_of i) ins) m (λ is.
       let count : length (isa.stored (op_of i) ins) ≡ (isa.info i.form).size = lawful.stored_count i ins valid is are.count in
       let few : length (isa.stored (op_of i) ins) ≤ 32 = subst (λ n. n ≤ 32) (sym count) (lawful.sizes i.form) in
       ap (λ n. take n (padded_values 32 (isa.stored (op_of i) ins))) (sym count) ∙ take_padded 32 (isa.stored (op_of i) ins) few)
 
   outputs_few : length (outputs i) ≤ 3
-  outputs_few = subst (λ n. length (outputs i) ≤ n) (ap length valid.outs_shape ∙ length_padded 3 (outputs i)) (length_chosen i.outs)
-
-  pub length-loaded_by : (ins : List ℕ) (m : FinMap nat_cmp ℕ) → length (loaded_by isa i ins m) ≡ load_size isa i.form
-  unfolding loaded_by
-  length-loaded_by ins m = length_if (is_load (isa.info i.form)) isa.space m (address_of isa i ins) (isa.info i.form).size
+  outputs_few = subst (λ n. length (outputs i) ≤ n) (ap length valid.outs_shape ∙ length-padded 3 (outputs i)) (length-filter_map (λ r. r) i.outs)
 
   -- the outputs and the bytes that an architecture gives, written to a state
   pub step_is : (s : State) → AreOperands isa i (operand_values i s) → write_all (outputs i) (padded_values 3 (isa.values (op_of i) (operand_values i s) (loaded_by isa i (operand_values i s) s.memory))) (record { regs = s.regs; memory = memory_after isa i (operand_values i s) s.memory }) ≡ exec isa i s
@@ -112,7 +83,7 @@ module _ (isa : Isa) (lawful : IsLawful isa) (i : Instr) (valid : IsValid isa i)
   step_is s are =
       let ins = operand_values i s in
       let values = isa.values (op_of i) ins (loaded_by isa i ins s.memory) in
-      let count : length values ≡ length (outputs i) = lawful.value_count i ins (loaded_by isa i ins s.memory) valid are.count (length-loaded_by ins s.memory) in
+      let count : length values ≡ length (outputs i) = lawful.value_count i ins (loaded_by isa i ins s.memory) valid are.count (length-loaded_by isa i ins s.memory) in
       write_padded 3 (outputs i) values _ count (subst (λ n. n ≤ 3) (sym count) outputs_few)
 
   access_size_cases : (has is_store : Bool) (address size : ℕ) → size ≤ 32 → IfSome (access_if has is_store address size) (λ a. a.size ≤ 32)

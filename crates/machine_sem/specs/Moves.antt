@@ -32,4 +32,5 @@ loaded_at space (Some a) memory = if a.store then [] else load space memory a.ad
 -- a memory to which an access stores the first of some bytes
 unfoldable pub stored_at : ℕ → Option Access → List ℕ → FinMap nat_cmp ℕ → FinMap nat_cmp ℕ
 stored_at space None bytes memory = memory
-stored_at space (Some a) bytes memory = if a.store then store space a.address (take a.size bytes) memory else memory
+stored_at space (Some a) bytes memory =
+    if a.store then store space a.address (take a.size bytes) memory else memory

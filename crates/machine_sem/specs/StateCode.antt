@@ -18,6 +18,7 @@ abbrev pub new_state : State
 new_state = record { regs = empty; memory = empty }
 
 -- a map in which a key has what it had before
-unfoldable pub restored : {K : Type 0} {R : K → K → Ordering} → FinMap R ℕ → K → Option ℕ → FinMap R ℕ
+unfoldable pub restored : {K : Type 0} {R : K → K → Ordering} → FinMap R ℕ → K → Option ℕ
+    → FinMap R ℕ
 restored m key None = remove m key
 restored m key (Some value) = insert m key value

@@ -140,8 +140,8 @@ fn load_access(state: &State, name: ArchName, access: Option<Access>, bytes: &mu
     size
 }
 
-// Stores what an access takes of some bytes, and then gives registers their values. After `NoMemory`
-// nothing has changed.
+// Stores what an access takes of some bytes, and then gives registers their values. After
+// `NoMemory` nothing has changed.
 #[tactic(auto, unfolding(crate::specs::Moves::stored_at))]
 fn store_access(
     state: &mut State,
@@ -173,11 +173,11 @@ fn store_access(
 /// Does one instruction: it takes the values of its operands and the bytes that it loads from the
 /// state, and then stores its bytes and writes its outputs. After `NoMemory` nothing has changed.
 pub fn step<A: Arch>(arch: &A, instr: &Instr, state: &mut State) -> Result<(), NoMemory>
-    requires valid { IsValid A.isa instr.now }
-    requires fitting { Fits A.isa state.old }
-    ensures ok { OnOk result (state.new ≡ exec A.isa instr.now state.old) }
+    requires valid { IsValid A.language.isa instr.now }
+    requires fitting { Fits A.language.isa state.old }
+    ensures ok { OnOk result (state.new ≡ exec A.language.isa instr.now state.old) }
     ensures err { OnErr result (state.new ≡ state.old) }
-    ensures fits { Fits A.isa state.new }
+    ensures fits { Fits A.language.isa state.new }
 {
     let mut operands = [0; 4];
     let count = read_operands(state, &instr.ins, &mut operands);
@@ -194,15 +194,15 @@ pub fn step<A: Arch>(arch: &A, instr: &Instr, state: &mut State) -> Result<(), N
     store_access(state, name, access, &outs.bytes, outputs)
 }
 
-/// Does instructions one after the other. After `NoMemory` the state is the one behind some front of
-/// them.
+/// Does instructions one after the other. After `NoMemory` the state is the
+/// one behind some front of them.
 pub fn run_list<A: Arch>(arch: &A, items: &[Instr], state: &mut State) -> Result<(), NoMemory>
-    requires valid { AllByRecursion (IsValid A.isa) items.now }
-    requires fitting { Fits A.isa state.old }
-    ensures ok { OnOk result (state.new ≡ run A.isa items.now state.old) }
+    requires valid { AllByRecursion (IsValid A.language.isa) items.now }
+    requires fitting { Fits A.language.isa state.old }
+    ensures ok { OnOk result (state.new ≡ run A.language.isa items.now state.old) }
     ensures err { OnErr result ((front : ℕ) × (front < length items.now)
-        × (state.new ≡ run A.isa (take front items.now) state.old)) }
-    ensures fits { Fits A.isa state.new }
+        × (state.new ≡ run A.language.isa (take front items.now) state.old)) }
+    ensures fits { Fits A.language.isa state.new }
 {
     for instr in items {
         step(arch, instr, state)?;

@@ -8,6 +8,7 @@ ghost use Rattle.sl_model.specs.Lawful.{IsLawful};
 ghost use Rattle.machine_sem.specs.Fits.{Fits};
 ghost use Rattle.machine_sem.specs.Moves.{with_memory, with_regs};
 ghost use Rattle.machine_sem.specs.StateCode.{new_state, restored};
+ghost use Rattle.sl_model.specs.Machine.{space_of, limit_of};
 
 use sl_base::NoMemory;
 use sl_isa::{Bank, Reg};
@@ -68,7 +69,8 @@ impl State {
     pub fn set_reg(&mut self, reg: Reg, value: u128) -> Result<(), NoMemory>
         ensures ok { OnOk result (self.new ≡ write reg value self.old) }
         ensures err { OnErr result (self.new ≡ self.old) }
-        ensures fits { (isa : Isa) → IsLawful isa → value < isa.limit reg.bank → Fits isa self.old
+        ensures fits { (isa : Isa) → IsLawful isa → value < limit_of isa.name reg.bank
+            → Fits isa self.old
             → Fits isa self.new }
     {
         let Ok(_) = self.regs.insert(key(reg), value) else {
@@ -85,12 +87,14 @@ impl State {
         self.kept_byte(address).unwrap_or(0)
     }
 
-    /// Puts a byte at an address. After `NoMemory` nothing has changed. The state goes on fitting an
-    /// architecture that has the address.
+    /// Puts a byte at an address. After `NoMemory` nothing has changed. The state goes on fitting
+    /// an architecture that has the address.
     pub fn set_byte(&mut self, address: u64, value: u8) -> Result<(), NoMemory>
-        ensures ok { OnOk result (self.new ≡ with_memory (put address value self.old.memory) self.old) }
+        ensures ok { OnOk result
+            (self.new ≡ with_memory (put address value self.old.memory) self.old) }
         ensures err { OnErr result (self.new ≡ self.old) }
-        ensures fits { (isa : Isa) → IsLawful isa → address < isa.space → Fits isa self.old → Fits isa self.new }
+        ensures fits { (isa : Isa) → IsLawful isa → address < (space_of isa.name)
+            → Fits isa self.old → Fits isa self.new }
     {
         let Ok(_) = self.memory.insert(address, value) else {
             return Err(NoMemory);

@@ -1,13 +1,10 @@
 -- How a schedule is applied choice by choice.
 use Rattle.std.proofs.Common.{◌≡◌, append_assoc, ℕ, ◌+◌, ◌<◌, ◌≤◌, List, [], ◌∷◌, ◌++◌, take, drop, reverse, length, get_or, sym, ap, ◌∙◌}
-use Rattle.std.proofs.lemmas.List.{append-nil, drop_all, drop_more, take_more, reverse-append}
+use Rattle.std.proofs.lemmas.List.{append-nil, drop_all, drop_more}
 use Rattle.sl_model.specs.declared.instruction.Instr.{Instr}
 use Rattle.sl_model.specs.declared.schedule.Choice.{Choice}
 use Rattle.sl_model.specs.Body.{Body, applied_item, applied_from, applied}
-
--- the choices up to one, the last first
-done-more : (schedule : List Choice) (place : ℕ) (d : Choice) → place < length schedule → reverse (take (place + 1) schedule) ≡ get_or schedule place d ∷ reverse (take place schedule)
-done-more schedule place d within = ap reverse (take_more schedule place d within) ∙ reverse-append (take place schedule) (get_or schedule place d ∷ [])
+use Rattle.sl_laws.proofs.Elements.{reverse_take-more}
 
 -- one more choice is applied
 pub applied-more : (body : Body) (schedule : List Choice) (place : ℕ) (d : Choice) → place < length schedule
@@ -16,7 +13,7 @@ pub applied-more : (body : Body) (schedule : List Choice) (place : ℕ) (d : Cho
 unfolding applied_from
 applied-more body schedule place d within =
     ap (applied_from body (reverse (take place schedule))) (drop_more schedule place d within)
-    ∙ ap (λ done. applied_item body (reverse (take place schedule)) (get_or schedule place d) ∷ applied_from body done (drop (place + 1) schedule)) (sym (done-more schedule place d within))
+    ∙ ap (λ done. applied_item body (reverse (take place schedule)) (get_or schedule place d) ∷ applied_from body done (drop (place + 1) schedule)) (sym (reverse_take-more schedule place d within))
 
 -- where nothing is left, all is applied
 pub applied-all : (body : Body) (schedule : List Choice) (n : ℕ) (items : List Instr) → length schedule ≤ n

@@ -7,19 +7,19 @@ use Rattle.sl_model.specs.Body.{Body, flow_of, source_value, applied}
 use Rattle.sl_model.specs.Lawful.{IsLawful}
 use Rattle.sl_model.specs.Legal.{Problem, IsFullLegal, body_of}
 use Rattle.sl_model.specs.Program.{TagsHoldOf}
-use Rattle.renamer.specs.Faithful.{Carries}
+use Rattle.renamer.specs.Faithful.{Carries, FaithfulOrderCarries}
 use Rattle.renamer.specs.Outcome.{CarriesProblem}
 use Rattle.renamer.specs.WellPosed.{IsWellPosed}
 use Rattle.renamer.proofs.OrderKept.{applied-kept}
-use Rattle.renamer.proofs.OrderRun.{order-carries}
 use Rattle.renamer.proofs.LegalityFaithful.{legal-faithful}
 use Rattle.renamer.proofs.LegalityFinals.{finals-hold}
+use Rattle.sl_model.specs.Machine.{space_of}
 
--- A full legal schedule carries out its problem.
-pub legal-carries : (isa : Isa) (problem : Problem) (schedule : List Choice) (s : State) → IsLawful isa → IsWellPosed isa problem → IsFullLegal isa problem schedule → TagsHoldOf isa.space (flow_of isa (body_of problem) s).touches → CarriesProblem isa problem schedule (applied (body_of problem) schedule) s
-legal-carries isa problem schedule s lawful posed legal tags =
+-- A full legal schedule carries out its problem, where faithful orders carry out their bodies.
+pub legal-carries : FaithfulOrderCarries → (isa : Isa) (problem : Problem) (schedule : List Choice) (s : State) → IsLawful isa → IsWellPosed isa problem → IsFullLegal isa problem schedule → TagsHoldOf (space_of isa.name) (flow_of isa (body_of problem) s).touches → CarriesProblem isa problem schedule (applied (body_of problem) schedule) s
+legal-carries order isa problem schedule s lawful posed legal tags =
     let body : Body = body_of problem in
-    let carried : Carries isa body schedule s = order-carries isa body s lawful posed.sound tags schedule (legal-faithful isa problem [] schedule lawful posed.sound legal.legal) legal.full in
+    let carried : Carries isa body schedule s = order isa body schedule s lawful posed.sound (legal-faithful isa problem [] schedule lawful posed.sound legal.legal) legal.full tags in
     record {
       finals = λ k r value final. carried.registers r ∙ ap (source_value s (flow_of isa body s).values) (finals-hold isa problem schedule posed.sound posed.made legal k r value final);
       bytes = carried.bytes;

@@ -11,10 +11,11 @@ use Rattle.sl_model.specs.Body.{chosen, is_placed, is_still_held, all_differ, Is
 use Rattle.sl_model.specs.Lawful.{IsLawful, zero_register}
 use Rattle.sl_model.specs.Legal.{Problem, IsLegalNext, IsLegalFrom, sources_in, body_of, suits_output, output_classes}
 use Rattle.renamer.specs.Faithful.{IsSound}
-use Rattle.std.proofs.lemmas.Bool.{not-true, cases_Bool}
-use Rattle.renamer.proofs.OwnTests.{and_right, list_all-from_each, list_any-from_each, list_any-at}
-use Rattle.renamer.proofs.OwnFlow.{is_zero-register}
-use Rattle.renamer.proofs.LegalityRules.{KeepsRules, keeps_rules, SuitsOutput, suits_outputs, suits_operands}
+use Rattle.std.proofs.lemmas.Bool.{not-true, cases_Bool, and_parts}
+use Rattle.renamer.proofs.LegalityRules.{SuitsOutput, suits_outputs, suits_operands}
+use Rattle.sl_laws.proofs.RegSets.{is_zero-register}
+use Rattle.sl_laws.proofs.Rules.{KeepsRules, keeps_rules}
+use Rattle.sl_laws.proofs.Elements.{list_all-from_each, list_any-at, list_any-from_each}
 
 -- no output of a legal choice goes to the zero register
 plain_choice : (isa : Isa) (problem : Problem) (done : List Choice) (c : Choice) → IsLawful isa → IsSound isa (body_of problem) → IsLegalNext isa problem done c → list_any is_zero (chosen c) ≡ false
@@ -36,7 +37,7 @@ legal_choice-faithful isa problem done c lawful sound legal =
       sources = list_all-from_each (is_still_held done) (sources_in problem c.item) (λ k value at. (suits_operands isa problem done c sound legal k value at).still_held);
       conflicts = rules.l5;
       outputs = legal.of.outputs_given;
-      distinct = and_right (list_all (suits_output isa problem c.item) (output_classes isa problem c)) (all_differ (chosen c)) rules.l4;
+      distinct = (and_parts (list_all (suits_output isa problem c.item) (output_classes isa problem c)) (all_differ (chosen c)) rules.l4).1;
       writable = plain_choice isa problem done c lawful sound legal;
     }
 

@@ -13,10 +13,14 @@ use Rattle.sl_model.specs.Body.{chosen, is_placed, is_full, held, all_differ, sa
 use Rattle.sl_model.specs.Legal.{Problem, IsLegalNext, IsLegalFrom, IsFullLegal, body_of, may_overwrite, is_final_in, is_still_read, suits_output, output_classes}
 use Rattle.renamer.specs.Faithful.{IsSound}
 use Rattle.renamer.specs.WellPosed.{is_made}
-use Rattle.std.proofs.lemmas.Bool.{not-true, cases_Bool}
-use Rattle.renamer.proofs.OrderState.{same_reg-true, same_reg-refl}
-use Rattle.renamer.proofs.OwnTests.{and_left, and_right, both, implied, either, list_all-at, list_any-at, element_at, same_source-refl, place_from-at, place_from-differ}
-use Rattle.renamer.proofs.LegalityRules.{KeepsRules, keeps_rules, SuitsOutput, suits_outputs}
+use Rattle.std.proofs.lemmas.Bool.{not-true, cases_Bool, and_parts, and_from, or_right, or_cases}
+use Rattle.renamer.proofs.LegalityRules.{SuitsOutput, suits_outputs}
+use Rattle.sl_laws.proofs.Tests.{implied}
+use Rattle.sl_laws.proofs.Sources.{same_source-refl}
+use Rattle.sl_laws.proofs.Rules.{KeepsRules, keeps_rules}
+use Rattle.sl_laws.proofs.Elements.{element_at, list_all-at, list_any-at}
+use Rattle.sl_laws.proofs.Orders.{standing-passes}
+use Rattle.sl_laws.proofs.Registers.{place_from-at, place_from-differ, same_reg-refl, same_reg-true}
 
 -- A final register holds what it held before, or the output that is final there once that is placed.
 abbrev Stands : List Choice → Reg → Source → Type 0
@@ -33,9 +37,9 @@ kept isa problem done c j r value legal final stands =
           let found = place_from-at 0 r (chosen c) place is in
           let rules : KeepsRules isa problem done c = keeps_rules isa problem done c legal.rules in
           let may : may_overwrite problem done c.item r ≡ true = list_all-at (may_overwrite problem done c.item) (chosen c) found.0 r rules.l7 found.2 in
-          let not_final : is_final_in problem r (held done r) ≡ false = not-true (is_final_in problem r (held done r)) (and_left (not (is_final_in problem r (held done r))) (not (is_still_read problem done c.item (held done r))) may) in
+          let not_final : is_final_in problem r (held done r) ≡ false = not-true (is_final_in problem r (held done r)) (and_parts (not (is_final_in problem r (held done r))) (not (is_still_read problem done c.item (held done r))) may).0 in
           let not_here : (same_reg r r && same_source value (held done r)) ≡ false = list_any-at (λ f. same_reg f.0 r && same_source f.1 (held done r)) problem.finals j (r, value) not_final final in
-          let here : (same_reg r r && same_source value (held done r)) ≡ true = both (same_reg r r) (same_source value (held done r)) (same_reg-refl r) (ap (same_source value) stands ∙ same_source-refl value) in
+          let here : (same_reg r r && same_source value (held done r)) ≡ true = and_from (same_reg r r) (same_source value (held done r)) (same_reg-refl r) (ap (same_source value) stands ∙ same_source-refl value) in
           absurd (true≢false (sym here ∙ not_here))
     ] refl
 
@@ -49,7 +53,7 @@ put_there isa problem done c j r place sound legal final within =
     let value : Source = Item c.item place in
     let there : same_reg r out.0 ≡ true = implied (same_source value value) (same_reg r out.0) (list_all-at (λ f. not (same_source f.1 value) || same_reg f.0 out.0) problem.finals j (r, value) suits.finals final) (same_source-refl value) in
     let at : slice_get (chosen c) place ≡ Some r = out.1 ∙ ap (λ x. Some x) (sym (same_reg-true r out.0 there)) in
-    let differ : all_differ (chosen c) ≡ true = and_right (list_all (suits_output isa problem c.item) (output_classes isa problem c)) (all_differ (chosen c)) rules.l4 in
+    let differ : all_differ (chosen c) ≡ true = (and_parts (list_all (suits_output isa problem c.item) (output_classes isa problem c)) (all_differ (chosen c)) rules.l4).1 in
     ap (λ o. output_or c.item o (held done r)) (place_from-differ 0 r (chosen c) place differ at)
     ∙ ap (λ n. Item c.item n) (omega arith)
 
@@ -69,7 +73,7 @@ stands-next isa problem done c j r (Item item place) sound legal final made stan
         first : eqb c.item item ≡ true → held (c ∷ done) r ≡ Item item place
         first test =
             let same : c.item ≡ item = eqb-true c.item item test in
-            let within : place < length (outputs (item_at problem.items item)) = ltb-true place (length (outputs (item_at problem.items item))) (and_right (stands_in item problem.order) (nat_lt place (length (outputs (item_at problem.items item)))) made) in
+            let within : place < length (outputs (item_at problem.items item)) = ltb-true place (length (outputs (item_at problem.items item))) (and_parts (stands_in item problem.order) (nat_lt place (length (outputs (item_at problem.items item)))) made).1 in
             put_there isa problem done c j r place sound legal (final ∙ ap (λ p. Some (r, Item p place)) (sym same)) (subst (λ p. place < length (outputs (item_at problem.items p))) (sym same) within)
             ∙ ap (λ p. Item p place) same
 
@@ -91,26 +95,15 @@ unfolding is_placed
 placed-onto [] done item (inl e) = absurd (true≢false (sym e))
 placed-onto [] done item (inr e) = e
 placed-onto (c ∷ choices) done item (inl e) =
-    placed-onto choices (c ∷ done) item (⊎_elim (λ here. inr (ap (λ b. b || is_placed done item) here)) (λ later. inl later) (either (eqb c.item item) (is_placed choices item) e))
-placed-onto (c ∷ choices) done item (inr e) = placed-onto choices (c ∷ done) item (inr (or_true (eqb c.item item) (is_placed done item) e))
-  where
-    or_true : (a b : Bool) → b ≡ true → (a || b) ≡ true
-    or_true true b e = refl
-    or_true false b e = e
-
--- what holds of all numbers of an order holds of each
-pub list_all-stands : (p : ℕ → Bool) (order : List ℕ) (item : ℕ) → list_all p order ≡ true → stands_in item order ≡ true → p item ≡ true
-unfolding stands_in
-list_all-stands p [] item all stands = absurd (true≢false (sym stands))
-list_all-stands p (q ∷ order) item all stands =
-    ⊎_elim (λ here. ap p (sym (eqb-true q item here)) ∙ and_left (p q) (list_all p order) all) (λ later. list_all-stands p order item (and_right (p q) (list_all p order) all) later) (either (eqb q item) (stands_in item order) stands)
+    placed-onto choices (c ∷ done) item (⊎_elim (λ here. inr (ap (λ b. b || is_placed done item) here)) (λ later. inl later) (or_cases (eqb c.item item) (is_placed choices item) e))
+placed-onto (c ∷ choices) done item (inr e) = placed-onto choices (c ∷ done) item (inr (or_right (eqb c.item item) (is_placed done item) e))
 
 -- once all items are placed, each final value is
 stands-holds : (problem : Problem) (schedule : List Choice) (r : Reg) (value : Source) → is_full problem.order schedule ≡ true → is_made problem (r, value) ≡ true → Stands (reverse schedule) r value → held (reverse schedule) r ≡ value
 stands-holds problem schedule r (Entry q) full made stands = stands
 stands-holds problem schedule r (Item item place) full made stands =
-    let known : stands_in item problem.order ≡ true = and_left (stands_in item problem.order) (nat_lt place (length (outputs (item_at problem.items item)))) made in
-    stands (placed-onto schedule [] item (inl (list_all-stands (is_placed schedule) problem.order item full known)))
+    let known : stands_in item problem.order ≡ true = (and_parts (stands_in item problem.order) (nat_lt place (length (outputs (item_at problem.items item)))) made).0 in
+    stands (placed-onto schedule [] item (inl (standing-passes (is_placed schedule) problem.order item full known)))
 
 -- After a full legal schedule each final register holds its value.
 pub finals-hold : (isa : Isa) (problem : Problem) (schedule : List Choice) → IsSound isa (body_of problem) → list_all (is_made problem) problem.finals ≡ true → IsFullLegal isa problem schedule → (j : ℕ) (r : Reg) (value : Source) → slice_get problem.finals j ≡ Some (r, value) → held (reverse schedule) r ≡ value

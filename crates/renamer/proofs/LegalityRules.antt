@@ -1,5 +1,5 @@
 -- What the rules say of each operand and of each output of a legal choice.
-use Rattle.std.proofs.Common.{◌≡◌, ℕ, ◌<◌, Bool, true, false, ◌&&◌, not, List, length, Option, None, Some, if◌then◌else◌, refl, sym, ap, ◌∙◌, true≢false, arith, slice_get, zip}
+use Rattle.std.proofs.Common.{◌≡◌, ℕ, ◌<◌, Bool, true, ◌&&◌, List, length, Option, None, Some, refl, sym, ap, ◌∙◌, true≢false, arith, slice_get, zip}
 use Rattle.std.specs.List.{list_all}
 use Rattle.std.proofs.lemmas.Option.{slice_get_within}
 use Rattle.sl_model.specs.declared.register.Reg.{Reg}
@@ -8,46 +8,18 @@ use Rattle.sl_model.specs.declared.instruction.Instr.{Instr}
 use Rattle.sl_model.specs.declared.schedule.Choice.{Choice}
 use Rattle.sl_model.specs.declared.schedule.Source.{Source}
 use Rattle.sl_model.specs.declared.schedule.Source.TheVariants.{Item}
-use Rattle.sl_model.specs.declared.problem.Rule.{Rule}
-use Rattle.sl_model.specs.declared.problem.Rule.TheVariants.{L1, L2, L3, L4, L5, L6, L7}
 use Rattle.sl_model.specs.RegSets.{set_has}
 use Rattle.sl_model.specs.Register.{same_bool}
 use Rattle.sl_model.specs.Source.{outputs, item_at}
 use Rattle.sl_model.specs.Isa.{Isa}
 use Rattle.sl_model.specs.Body.{chosen, given, is_still_held, all_differ}
 use Rattle.sl_model.specs.Lawful.{IsValid}
-use Rattle.sl_model.specs.Legal.{Problem, IsLegalNext, sources_in, allowed_in, body_of, is_held_in, is_in_set, operand_classes, output_classes, suits_output, suits_readers, suits_finals, is_flags, first_broken, keeps_l1, keeps_l2, keeps_l3, keeps_l4, keeps_l5, keeps_l6, keeps_l7}
+use Rattle.sl_model.specs.Legal.{Problem, IsLegalNext, sources_in, allowed_in, body_of, is_held_in, is_in_set, operand_classes, output_classes, suits_output, suits_readers, suits_finals, is_flags}
 use Rattle.renamer.specs.Faithful.{IsSound}
-use Rattle.renamer.proofs.OwnTests.{and_left, and_right, list_all-at, zip-at, element_at, enumerate_from-at}
-use Rattle.renamer.proofs.OwnFlow.{set_count-bound}
-
--- all rules hold of a choice
-pub record KeepsRules (isa : Isa) (problem : Problem) (done : List Choice) (c : Choice) : Type 0 where
-  pub l1 : keeps_l1 problem done c ≡ true
-  pub l2 : keeps_l2 isa problem done c ≡ true
-  pub l3 : keeps_l3 isa problem done c ≡ true
-  pub l4 : keeps_l4 isa problem c ≡ true
-  pub l5 : keeps_l5 isa problem done c ≡ true
-  pub l6 : keeps_l6 problem c ≡ true
-  pub l7 : keeps_l7 problem done c ≡ true
-
--- where a rule isn't named as broken, it holds, and no later one is broken
-rule_kept : (a : Bool) (rule : Rule) (later : Option Rule) → (if not a then Some rule else later) ≡ None → (a ≡ true) × (later ≡ None)
-rule_kept true rule later e = (refl, e)
-rule_kept false rule later e = absurd (cc)
-
--- a choice that breaks no rule keeps all
-pub keeps_rules : (isa : Isa) (problem : Problem) (done : List Choice) (c : Choice) → first_broken isa problem done c ≡ None → KeepsRules isa problem done c
-unfolding first_broken
-keeps_rules isa problem done c none =
-    let r1 = rule_kept (keeps_l1 problem done c) L1 _ none in
-    let r2 = rule_kept (keeps_l2 isa problem done c) L2 _ r1.1 in
-    let r3 = rule_kept (keeps_l3 isa problem done c) L3 _ r2.1 in
-    let r4 = rule_kept (keeps_l4 isa problem c) L4 _ r3.1 in
-    let r5 = rule_kept (keeps_l5 isa problem done c) L5 _ r4.1 in
-    let r6 = rule_kept (keeps_l6 problem c) L6 _ r5.1 in
-    let r7 = rule_kept (keeps_l7 problem done c) L7 _ r6.1 in
-    record { l1 = r1.0; l2 = r2.0; l3 = r3.0; l4 = r4.0; l5 = r5.0; l6 = r6.0; l7 = r7.0 }
+use Rattle.sl_laws.proofs.RegSets.{set_count-bound}
+use Rattle.sl_laws.proofs.Rules.{KeepsRules, keeps_rules}
+use Rattle.sl_laws.proofs.Elements.{element_at, enumerate_from-at, list_all-at, zip-at}
+use Rattle.std.proofs.lemmas.Bool.{and_parts}
 
 -- what holds of an output at a place
 pub record SuitsOutput (isa : Isa) (problem : Problem) (c : Choice) (k : ℕ) (r : Reg) : Type 0 where
@@ -80,19 +52,19 @@ suits_outputs isa problem done c sound legal k r at =
     enumerate_from-at 0 (zip (zip (chosen c) sets) (outputs i)) k ((r, set.0), original.0) (zip-at (zip (chosen c) sets) (outputs i) k (r, set.0) original.0 (zip-at (chosen c) sets k r set.0 at set.1) original.1)
     ∙ ap (λ n. Some (n, ((r, set.0), original.0))) (omega arith) in
     let suits : suits_output isa problem c.item (k, ((r, set.0), original.0)) ≡ true =
-    list_all-at (suits_output isa problem c.item) (output_classes isa problem c) k (k, ((r, set.0), original.0)) (and_left (list_all (suits_output isa problem c.item) (output_classes isa problem c)) (all_differ (chosen c)) rules.l4) beside in
+    list_all-at (suits_output isa problem c.item) (output_classes isa problem c) k (k, ((r, set.0), original.0)) (and_parts (list_all (suits_output isa problem c.item) (output_classes isa problem c)) (all_differ (chosen c)) rules.l4).0 beside in
     let readers : Bool = suits_readers isa problem (Item c.item k) r in
     let finals : Bool = suits_finals problem (Item c.item k) r in
     let flags : Bool = same_bool (is_flags original.0) (is_flags r) in
-    let after_allowed = and_right (set_has (allowed_in problem c.item) r) (set_has set.0 r && (readers && (finals && flags))) suits in
-    let after_set = and_right (set_has set.0 r) (readers && (finals && flags)) after_allowed in
-    let after_readers = and_right readers (finals && flags) after_set in
+    let after_allowed = (and_parts (set_has (allowed_in problem c.item) r) (set_has set.0 r && (readers && (finals && flags))) suits).1 in
+    let after_set = (and_parts (set_has set.0 r) (readers && (finals && flags)) after_allowed).1 in
+    let after_readers = (and_parts readers (finals && flags) after_set).1 in
     record {
-      allowed = and_left (set_has (allowed_in problem c.item) r) (set_has set.0 r && (readers && (finals && flags))) suits;
+      allowed = (and_parts (set_has (allowed_in problem c.item) r) (set_has set.0 r && (readers && (finals && flags))) suits).0;
       set = set.0;
       set_at = set.1;
-      set_has_it = and_left (set_has set.0 r) (readers && (finals && flags)) after_allowed;
-      finals = and_left finals flags after_readers;
+      set_has_it = (and_parts (set_has set.0 r) (readers && (finals && flags)) after_allowed).0;
+      finals = (and_parts finals flags after_readers).0;
     }
 
 -- a register in a set is one
@@ -110,9 +82,9 @@ suits_operands isa problem done c sound legal k value at =
     let within : k < length (sources_in problem c.item) = slice_get_within (sources_in problem c.item) k value at in
     let set = element_at sets k (omega (arith, within, sound.operands_have c.item legal.of.known, valid.operand_count, set_count-bound sets)) in
     let suits : is_held_in done (value, set.0) ≡ true = list_all-at (is_held_in done) (operand_classes isa problem c.item) k (value, set.0) rules.l2 (zip-at (sources_in problem c.item) sets k value set.0 at set.1) in
-    let in_set = in_set_has set.0 (given done value) (and_right (is_still_held done value) (is_in_set set.0 (given done value)) suits) in
+    let in_set = in_set_has set.0 (given done value) (and_parts (is_still_held done value) (is_in_set set.0 (given done value)) suits).1 in
     record {
-      still_held = and_left (is_still_held done value) (is_in_set set.0 (given done value)) suits;
+      still_held = (and_parts (is_still_held done value) (is_in_set set.0 (given done value)) suits).0;
       register = in_set.0;
       given_it = in_set.1;
       set = set.0;

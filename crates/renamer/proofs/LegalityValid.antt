@@ -1,7 +1,6 @@
 -- Each instruction of an applied legal schedule is one of the instruction set.
-use Rattle.std.proofs.Common.{◌≡◌, ℕ, zero, suc, ◌<◌, ◌≤◌, true, false, not, ◌&&◌, eqb, List, [], ◌∷◌, length, Option, None, Some, if◌then◌else◌, refl, sym, ap, subst, ◌∙◌, true≢false, arith, slice_get, filter_map, option_map, zip}
-use Rattle.std.specs.Int.{bit_at}
-use Rattle.std.specs.List.{list_all, cons_option}
+use Rattle.std.proofs.Common.{◌≡◌, ℕ, zero, suc, ◌<◌, ◌≤◌, true, List, [], ◌∷◌, length, Option, None, Some, refl, sym, ap, subst, ◌∙◌, true≢false, arith, slice_get, filter_map, zip}
+use Rattle.std.specs.List.{list_all}
 use Rattle.std.proofs.lemmas.Option.{slice_get_within}
 use Rattle.sl_model.specs.declared.register.Reg.{Reg}
 use Rattle.sl_model.specs.declared.register.RegSet.{RegSet}
@@ -9,71 +8,20 @@ use Rattle.sl_model.specs.declared.instruction.Instr.{Instr}
 use Rattle.sl_model.specs.declared.instruction.FormInfo.{FormInfo}
 use Rattle.sl_model.specs.declared.schedule.Choice.{Choice}
 use Rattle.sl_model.specs.declared.schedule.Source.{Source}
-use Rattle.sl_model.specs.RegSets.{set_has, is_in_bank, bit_of}
 use Rattle.sl_model.specs.Source.{operands, item_at, padded}
 use Rattle.sl_model.specs.Isa.{Isa}
 use Rattle.sl_model.specs.Body.{chosen, given, all_differ, applied_item, applied_from}
-use Rattle.sl_model.specs.Lawful.{IsValid, suits_set, is_of_bank, is_tied_to, is_reg_at, is_some_reg}
+use Rattle.sl_model.specs.Lawful.{IsValid, suits_set, is_tied_to, is_reg_at, is_some_reg, AreValid}
 use Rattle.sl_model.specs.Legal.{Problem, IsLegalNext, IsLegalFrom, sources_in, body_of, suits_output, output_classes, is_tied, is_given, is_register}
 use Rattle.renamer.specs.Faithful.{IsSound}
-use Rattle.renamer.specs.WellPosed.{AreValid}
-use Rattle.std.proofs.lemmas.Bool.{not-true}
-use Rattle.renamer.proofs.OwnTests.{and_left, and_right, list_all-at, list_all-from_each, element_at}
-use Rattle.renamer.proofs.LegalityRules.{KeepsRules, keeps_rules, SuitsOutput, suits_outputs, SuitsOperand, suits_operands}
+use Rattle.std.proofs.lemmas.Bool.{and_parts}
+use Rattle.renamer.proofs.LegalityRules.{SuitsOutput, suits_outputs, SuitsOperand, suits_operands}
+use Rattle.sl_laws.proofs.RegSets.{suits-from_set}
+use Rattle.sl_laws.proofs.Rules.{KeepsRules, keeps_rules}
+use Rattle.sl_laws.proofs.Elements.{element_at, filter_map-at, filter_map-length, length-filter_map, list_all-at, list_all-from_each, zip-parts}
+use Rattle.sl_laws.proofs.Padded.{length-padded, padded-back}
 
 -- places of registers
-
--- there are so many places
-length-padded : (n : ℕ) (regs : List Reg) → length (padded n regs) ≡ n
-length-padded zero regs = refl
-length-padded (suc n) [] = ap (λ m. suc m) (length-padded n [])
-length-padded (suc n) (r ∷ regs) = ap (λ m. suc m) (length-padded n regs)
-
--- the registers of so many places are those that were put there
-padded-back : (n : ℕ) (regs : List Reg) → length regs ≤ n → filter_map (λ r. r) (padded n regs) ≡ regs
-padded-back zero [] le = refl
-padded-back zero (r ∷ regs) le = absurd (omega arith)
-padded-back (suc n) [] le = padded-back n [] (omega arith)
-padded-back (suc n) (r ∷ regs) le = ap (λ l. r ∷ l) (padded-back n regs (omega arith))
-
--- no more is given than there are elements
-filter_map-bound : {X Y : Type 0} (h : X → Option Y) (xs : List X) → length (filter_map h xs) ≤ length xs
-filter_map-bound h [] = omega arith
-filter_map-bound h (x ∷ xs) = bound (h x) (filter_map h xs) (length xs) (filter_map-bound h xs)
-  where
-    bound : {Y : Type 0} (o : Option Y) (ys : List Y) (n : ℕ) → length ys ≤ n → length (cons_option o ys) ≤ suc n
-    bound None ys n le = omega arith
-    bound (Some y) ys n le = omega arith
-
--- where something is given for each element, there are as many
-filter_map-length : {X Y : Type 0} (h : X → Option Y) (xs : List X) → ((k : ℕ) (x : X) → slice_get xs k ≡ Some x → (y : Y) × (h x ≡ Some y)) → length (filter_map h xs) ≡ length xs
-filter_map-length h [] all = refl
-filter_map-length h (x ∷ xs) all =
-    ap (λ o. length (cons_option o (filter_map h xs))) (all 0 x refl).1
-    ∙ ap (λ n. suc n) (filter_map-length h xs (λ k y at. all (suc k) y at))
-
--- and each stands at its element's place
-filter_map-at : {X Y : Type 0} (h : X → Option Y) (xs : List X) → ((k : ℕ) (x : X) → slice_get xs k ≡ Some x → (y : Y) × (h x ≡ Some y)) → (k : ℕ) (x : X) → slice_get xs k ≡ Some x → slice_get (filter_map h xs) k ≡ h x
-filter_map-at h [] all k x at = absurd (cc)
-filter_map-at h (z ∷ xs) all zero x at =
-    let same : z ≡ x = cc in
-    ap (λ o. slice_get (cons_option o (filter_map h xs)) 0) (all 0 z refl).1 ∙ sym (all 0 z refl).1 ∙ ap h same
-filter_map-at h (z ∷ xs) all (suc k) x at =
-    ap (λ o. slice_get (cons_option o (filter_map h xs)) (suc k)) (all 0 z refl).1 ∙ filter_map-at h xs (λ n y there. all (suc n) y there) k x at
-
--- what stands side by side stands in both lists
-zip-parts : {A B : Type 0} (xs : List A) (ys : List B) (k : ℕ) (x : A) (y : B) → slice_get (zip xs ys) k ≡ Some (x, y) → (slice_get xs k ≡ Some x) × (slice_get ys k ≡ Some y)
-zip-parts [] ys k x y at = absurd (cc)
-zip-parts (a ∷ xs) [] k x y at = absurd (cc)
-zip-parts {A = A} {B = B} (a ∷ xs) (b ∷ ys) zero x y at = (ap (option_map (λ (p : A × B). p.0)) at, ap (option_map (λ (p : A × B). p.1)) at)
-zip-parts (a ∷ xs) (b ∷ ys) (suc k) x y at = zip-parts xs ys k x y at
-
--- a register of a set may stand where the set's are taken
-suits-from_set : (r : Reg) (set : RegSet) → set_has set r ≡ true → suits_set (r, set) ≡ true
-unfolding set_has
-suits-from_set r set has =
-    let concrete : r.symbolic ≡ false = not-true r.symbolic (and_left (not r.symbolic) (eqb (bit_at set.bits (bit_of r.bank r.number)) 1 && is_in_bank r) has) in
-    ap (λ b. if b then is_of_bank r.bank set else set_has set r) concrete ∙ has
 
 -- An item of a legal choice, applied, is an instruction of the set.
 pub applied_item-valid : (isa : Isa) (problem : Problem) (done : List Choice) (c : Choice) → IsSound isa (body_of problem) → IsLegalNext isa problem done c → IsValid isa (applied_item (body_of problem) done c)
@@ -88,7 +36,7 @@ applied_item-valid isa problem done c sound legal =
     λ (k : ℕ) (value : Source) (at : slice_get sources k ≡ Some value). ((suits_operands isa problem done c sound legal k value at).register, (suits_operands isa problem done c sound legal k value at).given_it) in
     let as_many : length regs ≡ length (operands i) = filter_map-length (given done) sources each ∙ sound.operands_have c.item legal.of.known in
     let places : length i.ins ≡ 4 = ap length valid.ins_shape ∙ length-padded 4 (operands i) in
-    let few : length (operands i) ≤ 4 = omega (arith, filter_map-bound (λ (r : Option Reg). r) i.ins) in
+    let few : length (operands i) ≤ 4 = omega (arith, length-filter_map (λ (r : Option Reg). r) i.ins) in
     let back : filter_map (λ (r : Option Reg). r) (padded 4 regs) ≡ regs = padded-back 4 regs (omega arith) in
     record {
       op = valid.op;
@@ -99,7 +47,7 @@ applied_item-valid isa problem done c sound legal =
       operand_classes = subst (λ l. list_all suits_set (zip l info.in_sets) ≡ true) (sym back)
           (list_all-from_each suits_set (zip regs info.in_sets) (λ k x at. operand_suits each k x.0 x.1 (zip-parts regs info.in_sets k x.0 x.1 at)));
       output_classes = list_all-from_each suits_set (zip (chosen c) info.out_sets) (λ k x at. output_suits k x.0 x.1 (zip-parts (chosen c) info.out_sets k x.0 x.1 at));
-      distinct = and_right (list_all (suits_output isa problem c.item) (output_classes isa problem c)) (all_differ (chosen c)) rules.l4;
+      distinct = (and_parts (list_all (suits_output isa problem c.item) (output_classes isa problem c)) (all_differ (chosen c)) rules.l4).1;
       tied = subst (λ l. list_all (is_tied_to l) (zip (chosen c) info.tied) ≡ true) (sym back)
           (list_all-from_each (is_tied_to regs) (zip (chosen c) info.tied) (λ k x at. tied_suits each x.0 x.1 (list_all-at (is_tied problem done c.item) (zip (chosen c) info.tied) k x rules.l3 at)));
     }

@@ -1,4 +1,4 @@
-pub mod OrderState
+pub mod ForCallers
 pub mod OrderAddress
 pub mod OrderLists
 pub mod OrderFold
@@ -7,7 +7,6 @@ pub mod OrderShare
 pub mod OrderStep
 pub mod OrderRun
 pub mod OrderKept
-pub mod OwnTests
 pub mod OwnFlow
 pub mod LegalityRules
 pub mod LegalityFaithful
@@ -18,5 +17,4 @@ pub mod StraightNumbers
 pub mod StraightSets
 pub mod StraightPosed
 pub mod StraightLeaves
-pub mod Adding
 pub mod AppliedLemmas

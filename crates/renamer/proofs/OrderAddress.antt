@@ -6,7 +6,7 @@ use Rattle.std.proofs.lemmas.Int.{ints, int_rem_euclid_is}
 use native.Mathlib.Nat.{mod-add-mod, mod-eq-sub-mod}
 use Rattle.sl_model.specs.Isa.{address_at}
 use Rattle.sl_model.specs.Body.{ranges_disjoint}
-use Rattle.renamer.proofs.OrderState.{IsWithin}
+use Rattle.sl_laws.proofs.State.{IsWithin}
 
 -- Numbers that are less than a modulus apart have different remainders.
 apart_mod : (space x d : ℕ) → 0 < d → d < space → (x + d) % space ≡ x % space → ⊥

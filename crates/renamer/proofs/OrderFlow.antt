@@ -13,25 +13,26 @@ use Rattle.sl_model.specs.Exec.{Touch, has_access, is_store, address_of, touch_o
 use Rattle.sl_model.specs.Program.{IsAmong, times_of}
 use Rattle.sl_model.specs.Body.{Body, Flow, flow_item, flow_from, flow_of, output_value, source_value, sources_values, above, stands_in}
 use Rattle.renamer.specs.Faithful.{IsOnce, IsSound, comes_from}
-use Rattle.renamer.proofs.OrderState.{stored_at, byte-store}
-use Rattle.renamer.proofs.OrderLists.{stands_first, stands_behind, stands-cases, stands-none, differs, above-later}
 use Rattle.renamer.proofs.OrderFold.{folded, counted, everything}
+use Rattle.sl_laws.proofs.State.{stored_at, byte-store}
+use Rattle.sl_laws.proofs.Orders.{above-later, differs, stands-cases, stands-none, stands_behind, stands_first}
+use Rattle.sl_model.specs.Machine.{space_of}
 
 -- the byte that an instruction leaves at an address, if it stores one there
 unfoldable pub leaves_byte : Isa → Instr → List ℕ → ℕ → Option ℕ
-leaves_byte isa i ins at = cond (is_store (isa.info i.form)) (stored_at isa.space (address_of isa i ins) (isa.stored (op_of i) ins) at) None
+leaves_byte isa i ins at = cond (is_store (isa.info i.form)) (stored_at (space_of isa.name) (address_of isa i ins) (isa.stored (op_of i) ins) at) None
 
 -- a byte after an instruction
 pub byte-after : (isa : Isa) (i : Instr) (ins : List ℕ) (memory : FinMap nat_cmp ℕ) (at : ℕ) → byte (memory_after isa i ins memory) at ≡ unwrap_or (leaves_byte isa i ins at) (byte memory at)
 unfolding memory_after leaves_byte
 byte-after isa i ins memory at = ⊎_elim
     (λ (stores : is_store (isa.info i.form) ≡ true).
-    ap (λ m. byte m at) (cond-true (is_store (isa.info i.form)) (store isa.space (address_of isa i ins) (isa.stored (op_of i) ins) memory) memory stores)
-    ∙ byte-store isa.space (address_of isa i ins) (isa.stored (op_of i) ins) memory at
-    ∙ ap (λ o. unwrap_or o (byte memory at)) (sym (cond-true (is_store (isa.info i.form)) (stored_at isa.space (address_of isa i ins) (isa.stored (op_of i) ins) at) None stores)))
+    ap (λ m. byte m at) (cond-true (is_store (isa.info i.form)) (store (space_of isa.name) (address_of isa i ins) (isa.stored (op_of i) ins) memory) memory stores)
+    ∙ byte-store (space_of isa.name) (address_of isa i ins) (isa.stored (op_of i) ins) memory at
+    ∙ ap (λ o. unwrap_or o (byte memory at)) (sym (cond-true (is_store (isa.info i.form)) (stored_at (space_of isa.name) (address_of isa i ins) (isa.stored (op_of i) ins) at) None stores)))
     (λ (stores : is_store (isa.info i.form) ≡ false).
-    ap (λ m. byte m at) (cond-false (is_store (isa.info i.form)) (store isa.space (address_of isa i ins) (isa.stored (op_of i) ins) memory) memory stores)
-    ∙ ap (λ o. unwrap_or o (byte memory at)) (sym (cond-false (is_store (isa.info i.form)) (stored_at isa.space (address_of isa i ins) (isa.stored (op_of i) ins) at) None stores)))
+    ap (λ m. byte m at) (cond-false (is_store (isa.info i.form)) (store (space_of isa.name) (address_of isa i ins) (isa.stored (op_of i) ins) memory) memory stores)
+    ∙ ap (λ o. unwrap_or o (byte memory at)) (sym (cond-false (is_store (isa.info i.form)) (stored_at (space_of isa.name) (address_of isa i ins) (isa.stored (op_of i) ins) at) None stores)))
     (cases_Bool (is_store (isa.info i.form)))
 
 -- accesses counted in two lists, one after the other

@@ -3,7 +3,8 @@ use Rattle.std.proofs.Common.{◌≡◌, ℕ, ◌+◌, Bool, true, false, cond, 
 use Rattle.std.proofs.lemmas.Bool.{cases_Bool, ne_eqb, cond-true, cond-false}
 use Rattle.sl_model.specs.Body.{above, stands_in}
 use Rattle.renamer.specs.Faithful.{IsOnce}
-use Rattle.renamer.proofs.OrderLists.{below, stands_first, stands_behind, cut_at_item, above-not_itself, below-not_itself}
+use Rattle.renamer.proofs.OrderLists.{below, cut_at_item, below-not_itself}
+use Rattle.sl_laws.proofs.Orders.{above-not_itself, stands_behind, stands_first}
 
 -- The last value that the items of an order which pass a test leave, where each may leave one.
 unfoldable pub folded : (ℕ → Option ℕ) → (ℕ → Bool) → ℕ → List ℕ → ℕ

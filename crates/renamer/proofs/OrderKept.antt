@@ -11,8 +11,8 @@ use Rattle.sl_model.specs.Isa.{Isa}
 use Rattle.sl_model.specs.Exec.{exec, run, values_of, memory_after, operand_values}
 use Rattle.sl_model.specs.Program.{is_one_of}
 use Rattle.sl_model.specs.Body.{Body, chosen, applied_item, applied_from}
-use Rattle.renamer.specs.Written.{is_output, is_chosen}
-use Rattle.renamer.proofs.OrderState.{read-write_other}
+use Rattle.renamer.specs.Written.{is_chosen}
+use Rattle.sl_laws.proofs.State.{read-write_other}
 
 -- Where a register stands nowhere among those written, it keeps its value.
 write_all-kept : (k : ℕ) (regs : List Reg) (values : List ℕ) (s : State) (r : Reg) → is_some (place_from k r regs) ≡ false → read (write_all regs values s) r ≡ read s r
@@ -33,15 +33,7 @@ exec-kept : (isa : Isa) (i : Instr) (s : State) (r : Reg) → is_one_of r (outpu
 unfolding exec read
 exec-kept isa i s r h = write_all-kept 0 (outputs i) (values_of isa i (operand_values i s) s.memory) (record { regs = s.regs; memory = memory_after isa i (operand_values i s) s.memory }) r h
 
--- So does a list of instructions,
-pub run-kept : (isa : Isa) (items : List Instr) (s : State) (r : Reg) → is_output r items ≡ false → read (run isa items s) r ≡ read s r
-unfolding run
-run-kept isa [] s r h = refl
-run-kept isa (i ∷ items) s r h =
-    let parts = or_parts (is_one_of r (outputs i)) (is_output r items) h in
-    run-kept isa items (exec isa i s) r parts.1 ∙ exec-kept isa i s r parts.0
-
--- and a list of choices keeps those that none of them took.
+-- So does a list of choices: it keeps those that none of them took.
 pub applied-kept : (isa : Isa) (body : Body) (done choices : List Choice) (s : State) (r : Reg) → is_chosen r choices ≡ false → read (run isa (applied_from body done choices) s) r ≡ read s r
 unfolding run applied_from
 applied-kept isa body done [] s r h = refl

@@ -10,10 +10,11 @@ use Rattle.sl_model.specs.Lawful.{IsLawful}
 use Rattle.sl_model.specs.Program.{TagsHoldOf, times_of}
 use Rattle.sl_model.specs.Body.{Body, flow_of, source_value, is_placed, held, applied, applied_item, applied_from, stands_in, is_full, IsFaithfulFrom}
 use Rattle.renamer.specs.Faithful.{IsSound, Carries}
-use Rattle.renamer.proofs.OrderLists.{list_all-at}
 use Rattle.renamer.proofs.OrderFold.{everything, counted, folded-none, folded-all, counted-all, counted-none, counted-placed}
 use Rattle.renamer.proofs.OrderFlow.{left_at, access_count, flow-bytes, flow-touches, times_of-append}
 use Rattle.renamer.proofs.OrderStep.{Reached, placed-here, placed-before, placed-others, step-operands, step-reached}
+use Rattle.sl_laws.proofs.Orders.{standing-passes}
+use Rattle.sl_model.specs.Machine.{space_of}
 
 -- choices put before those made so far, one after the other
 unfoldable onto : List Choice → List Choice → List Choice
@@ -44,7 +45,7 @@ chosen-onto (c ∷ choices) done q h = ⊎_elim
 regrouped : (a b c : ℕ) → (a + b) + c ≡ b + (a + c)
 regrouped a b c = omega arith
 
-module _ (isa : Isa) (body : Body) (s : State) (lawful : IsLawful isa) (sound : IsSound isa body) (tags : TagsHoldOf isa.space (flow_of isa body s).touches) where
+module _ (isa : Isa) (body : Body) (s : State) (lawful : IsLawful isa) (sound : IsSound isa body) (tags : TagsHoldOf (space_of isa.name) (flow_of isa body s).touches) where
   -- before the first choice
   reached-start : Reached isa body s [] s
   unfolding held is_placed
@@ -85,7 +86,7 @@ module _ (isa : Isa) (body : Body) (s : State) (lawful : IsLawful isa) (sound : 
   pub order-carries : (schedule : List Choice) → IsFaithfulFrom isa body [] schedule → is_full body.order schedule ≡ true → Carries isa body schedule s
   unfolding is_placed
   order-carries schedule faithful full =
-      let all = λ (q : ℕ) (there : stands_in q body.order ≡ true). chosen-onto schedule [] q (list_all-at (is_placed schedule) body.order q full there) in
+      let all = λ (q : ℕ) (there : stands_in q body.order ≡ true). chosen-onto schedule [] q (standing-passes (is_placed schedule) body.order q full there) in
       let reached = run-reached [] schedule s reached-start faithful in
       record {
         registers = λ (r : Reg). reached.registers r ∙ ap (λ choices. source_value s (flow_of isa body s).values (held choices r)) (onto-reverse schedule);

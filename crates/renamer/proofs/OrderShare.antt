@@ -1,30 +1,23 @@
 -- Two accesses of a flow that share a byte, one of them a store, conflict.
-use Rattle.std.proofs.Common.{◌≡◌, ℕ, zero, suc, true, false, not, ◌&&◌, ◌||◌, cond, eqb, List, [], ◌∷◌, map, length, Option, Some, None, slice_get, slice_index, option_and_then, is_some, refl, sym, ◌∙◌, ap, ap₂, subst, ⊎_elim, true≢false}
+use Rattle.std.proofs.Common.{◌≡◌, ℕ, zero, suc, true, false, not, ◌&&◌, ◌||◌, cond, List, [], ◌∷◌, map, length, Option, Some, None, slice_get, slice_index, option_and_then, is_some, refl, sym, ◌∙◌, ap, subst, ⊎_elim, true≢false}
 use Rattle.std.proofs.lemmas.List.{length-map}
-use Rattle.std.proofs.lemmas.Bool.{cases_Bool, and_parts, and_from, or_cases, or_left, or_right, not_from_false, false_from_ne_true, cond-true, cond-false, eqb-true}
+use Rattle.std.proofs.lemmas.Bool.{cases_Bool, and_parts, and_from, or_cases, or_left, or_right, not_from_false, false_from_ne_true, cond-true, cond-false}
 use Rattle.sl_model.specs.declared.instruction.FormInfo.{FormInfo}
 use Rattle.sl_model.specs.declared.schedule.Source.{Source}
-use Rattle.sl_model.specs.declared.schedule.Source.TheVariants.{Entry, Item}
 use Rattle.sl_model.specs.Source.{operands}
 use Rattle.sl_model.specs.State.{State}
 use Rattle.sl_model.specs.Isa.{Isa, op_of, address_at}
 use Rattle.sl_model.specs.Exec.{base_value, has_access, is_store, address_of, touch_of}
 use Rattle.sl_model.specs.Lawful.{IsLawful}
 use Rattle.sl_model.specs.Program.{TagsHoldOf}
-use Rattle.sl_model.specs.Body.{Body, flow_of, source_value, same_source, base_source, same_base, tags_differ, ranges_disjoint, are_apart, conflict, stands_in}
+use Rattle.sl_model.specs.Body.{Body, flow_of, source_value, base_source, same_base, tags_differ, ranges_disjoint, are_apart, conflict, stands_in}
 use Rattle.renamer.specs.Faithful.{IsSound}
-use Rattle.renamer.proofs.OrderState.{same_reg-true, stored_at, stored_at-within, IsWithin}
 use Rattle.renamer.proofs.OrderAddress.{IsSmall, ranges-apart}
 use Rattle.renamer.proofs.OrderFlow.{leaves_byte, operands_of, left_at, flow-among}
-
--- two names of one source are equal
-pub same_source-true : (a b : Source) → same_source a b ≡ true → a ≡ b
-same_source-true (Entry a) (Entry b) e = ap Entry (same_reg-true a b e)
-same_source-true (Item a j) (Item b k) e =
-    let parts = and_parts (eqb a b) (eqb j k) e in
-    ap₂ Item (eqb-true a b parts.0) (eqb-true j k parts.1)
-same_source-true (Entry a) (Item b k) e = absurd (true≢false (sym e))
-same_source-true (Item a j) (Entry b) e = absurd (true≢false (sym e))
+use Rattle.sl_laws.proofs.Sources.{same_source-true}
+use Rattle.sl_laws.proofs.State.{stored_at, IsWithin, stored_at-within}
+use Rattle.sl_model.specs.Machine.{space_of}
+use Rattle.sl_laws.proofs.Machines.{space-large}
 
 -- the value at the place where a source stands
 value-at : (value : Source → ℕ) (xs : List Source) (k : ℕ) (x : Source) → slice_get xs k ≡ Some x → slice_index (map value xs) k ≡ value x
@@ -50,10 +43,10 @@ store-parts info stores = ⊎_elim
     (λ (quiet : has_access info ≡ false). absurd (true≢false (sym stores ∙ cond-false (has_access info) info.store false quiet)))
     (cases_Bool (has_access info))
 
-module _ (isa : Isa) (body : Body) (s : State) (lawful : IsLawful isa) (sound : IsSound isa body) (tags : TagsHoldOf isa.space (flow_of isa body s).touches) where
+module _ (isa : Isa) (body : Body) (s : State) (lawful : IsLawful isa) (sound : IsSound isa body) (tags : TagsHoldOf (space_of isa.name) (flow_of isa body s).touches) where
   -- an address that the access of an item of the body has a byte at
   abbrev pub Reaches : ℕ → ℕ → Type 0
-  Reaches p at = IsWithin isa.space (address_of isa (body.instr p) (operands_of isa body s p)) (isa.info (body.instr p).form).size at
+  Reaches p at = IsWithin (space_of isa.name) (address_of isa (body.instr p) (operands_of isa body s p)) (isa.info (body.instr p).form).size at
 
   -- the offset and the size of an item's access are small
   small : (p : ℕ) → stands_in p body.order ≡ true → IsSmall (isa.offset (op_of (body.instr p))) (isa.info (body.instr p).form).size
@@ -78,9 +71,9 @@ module _ (isa : Isa) (body : Body) (s : State) (lawful : IsLawful isa) (sound : 
       let parts = and_parts (same_base (base_source isa body p) (base_source isa body q)) (ranges_disjoint (isa.offset (op_of (body.instr p))) (isa.info (body.instr p).form).size (isa.offset (op_of (body.instr q))) (isa.info (body.instr q).form).size) disjoint in
       let base : base_value (isa.info (body.instr p).form).base (operands_of isa body s p) ≡ base_value (isa.info (body.instr q).form).base (operands_of isa body s q) =
       same_base-values (source_value s (flow_of isa body s).values) (body.sources p) (body.sources q) (isa.info (body.instr p).form).base (isa.info (body.instr q).form).base (base_source isa body p) (base_source isa body q) refl refl parts.0 in
-      ranges-apart isa.space (base_value (isa.info (body.instr q).form).base (operands_of isa body s q)) (isa.info (body.instr p).form).size (isa.info (body.instr q).form).size at
-      (isa.offset (op_of (body.instr p))) (isa.offset (op_of (body.instr q))) lawful.space (small p p_there) (small q q_there) parts.1
-      (subst (λ b. IsWithin isa.space (address_at isa.space b (isa.offset (op_of (body.instr p)))) (isa.info (body.instr p).form).size at) base p_at) q_at)
+      ranges-apart (space_of isa.name) (base_value (isa.info (body.instr q).form).base (operands_of isa body s q)) (isa.info (body.instr p).form).size (isa.info (body.instr q).form).size at
+      (isa.offset (op_of (body.instr p))) (isa.offset (op_of (body.instr q))) (space-large isa.name) (small p p_there) (small q q_there) parts.1
+      (subst (λ b. IsWithin (space_of isa.name) (address_at (space_of isa.name) b (isa.offset (op_of (body.instr p)))) (isa.info (body.instr p).form).size at) base p_at) q_at)
       (or_cases (tags_differ (body.instr p).tag (body.instr q).tag) (same_base (base_source isa body p) (base_source isa body q) && ranges_disjoint (isa.offset (op_of (body.instr p))) (isa.info (body.instr p).form).size (isa.offset (op_of (body.instr q))) (isa.info (body.instr q).form).size) apart)
 
   -- Two accesses at one address conflict where one of them is a store.
@@ -98,16 +91,16 @@ module _ (isa : Isa) (body : Body) (s : State) (lawful : IsLawful isa) (sound : 
   unfolding leaves_byte
   leaves-reaches p at there leaves = ⊎_elim
       (λ (stores : is_store (isa.info (body.instr p).form) ≡ true).
-      let put : is_some (stored_at isa.space (address_of isa (body.instr p) (operands_of isa body s p)) (isa.stored (op_of (body.instr p)) (operands_of isa body s p)) at) ≡ true =
-      subst (λ t. is_some (cond t (stored_at isa.space (address_of isa (body.instr p) (operands_of isa body s p)) (isa.stored (op_of (body.instr p)) (operands_of isa body s p)) at) None) ≡ true) stores leaves in
+      let put : is_some (stored_at (space_of isa.name) (address_of isa (body.instr p) (operands_of isa body s p)) (isa.stored (op_of (body.instr p)) (operands_of isa body s p)) at) ≡ true =
+      subst (λ t. is_some (cond t (stored_at (space_of isa.name) (address_of isa (body.instr p) (operands_of isa body s p)) (isa.stored (op_of (body.instr p)) (operands_of isa body s p)) at) None) ≡ true) stores leaves in
       let size : length (isa.stored (op_of (body.instr p)) (operands_of isa body s p)) ≡ (isa.info (body.instr p).form).size =
       lawful.stored_count (body.instr p) (operands_of isa body s p) (sound.items p there) stores (operand-count p there) in (
         stores,
-        subst (λ n. IsWithin isa.space (address_of isa (body.instr p) (operands_of isa body s p)) n at) size
-            (stored_at-within isa.space (address_of isa (body.instr p) (operands_of isa body s p)) (isa.stored (op_of (body.instr p)) (operands_of isa body s p)) at put),
+        subst (λ n. IsWithin (space_of isa.name) (address_of isa (body.instr p) (operands_of isa body s p)) n at) size
+            (stored_at-within (space_of isa.name) (address_of isa (body.instr p) (operands_of isa body s p)) (isa.stored (op_of (body.instr p)) (operands_of isa body s p)) at put),
       ))
       (λ (quiet : is_store (isa.info (body.instr p).form) ≡ false).
-      let none : false ≡ true = subst (λ t. is_some (cond t (stored_at isa.space (address_of isa (body.instr p) (operands_of isa body s p)) (isa.stored (op_of (body.instr p)) (operands_of isa body s p)) at) None) ≡ true) quiet leaves in
+      let none : false ≡ true = subst (λ t. is_some (cond t (stored_at (space_of isa.name) (address_of isa (body.instr p) (operands_of isa body s p)) (isa.stored (op_of (body.instr p)) (operands_of isa body s p)) at) None) ≡ true) quiet leaves in
       absurd (true≢false (sym none)))
       (cases_Bool (is_store (isa.info (body.instr p).form)))
 

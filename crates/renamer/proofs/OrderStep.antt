@@ -1,87 +1,49 @@
 -- One step of a faithful order: what a run has reached, and what it reaches with the next choice.
-use Rattle.std.proofs.Common.{◌≡◌, ℕ, zero, suc, ◌≤◌, true, false, not, ◌||◌, cond, eqb, ◌⊎◌, List, [], ◌∷◌, map, length, Option, Some, None, unwrap_or, slice_index, is_some, refl, sym, ◌∙◌, ap, subst, inl, inr, ⊎_elim, true≢false, arith}
+use Rattle.std.proofs.Common.{◌≡◌, ℕ, ◌≤◌, true, false, not, ◌||◌, cond, eqb, ◌⊎◌, List, [], ◌∷◌, map, length, Option, Some, None, unwrap_or, slice_index, is_some, refl, sym, ◌∙◌, ap, subst, inl, inr, ⊎_elim, true≢false, arith}
 use Rattle.std.specs.List.{list_all, filter_map, cons_option}
 use Rattle.std.specs.Ordering.{nat_cmp}
 use Rattle.std.specs.FinMap.{FinMap}
-use Rattle.std.proofs.lemmas.Bool.{cases_Bool, and_parts, or_cases, or_left, or_right, not-true, both_ways, cond-true, cond-false, eqb-true, eq-eqb}
+use Rattle.std.proofs.lemmas.Bool.{cases_Bool, and_parts, or_cases, or_left, or_right, not-true, both_ways, cond-false, eqb-true, eq-eqb}
 use Rattle.sl_model.specs.declared.register.Reg.{Reg}
 use Rattle.sl_model.specs.declared.instruction.Instr.{Instr}
 use Rattle.sl_model.specs.declared.schedule.Choice.{Choice}
 use Rattle.sl_model.specs.declared.schedule.Source.{Source}
-use Rattle.sl_model.specs.Source.{operands, padded, place_from, output_or}
+use Rattle.sl_model.specs.Source.{operands, place_from, output_or}
 use Rattle.sl_model.specs.State.{State, read, byte, load, write_all}
 use Rattle.sl_model.specs.Isa.{Isa, op_of}
 use Rattle.sl_model.specs.Exec.{has_access, is_load, address_of, loaded_by, values_of, memory_after, operand_values, exec}
-use Rattle.sl_model.specs.Lawful.{IsLawful, IsValid, load_size}
+use Rattle.sl_model.specs.Lawful.{IsLawful}
 use Rattle.sl_model.specs.Program.{TagsHoldOf}
 use Rattle.sl_model.specs.Body.{Body, flow_of, source_value, conflict, chosen, is_placed, held, given, holds_in, is_still_held, applied_item, above, stands_in, IsFaithfulNext}
 use Rattle.renamer.specs.Faithful.{IsSound}
-use Rattle.renamer.proofs.OrderState.{IsWithin, landed, read-write_all, write_all-memory, load-same, length-load}
-use Rattle.renamer.proofs.OrderLists.{below, above-stands, below-stands, list_all-at}
+use Rattle.renamer.proofs.OrderLists.{below, below-stands}
 use Rattle.renamer.proofs.OrderFold.{folded, folded-found, folded-placed}
 use Rattle.renamer.proofs.OrderFlow.{byte-after, operands_of, left_at, found_by, found-bytes, flow-values}
-use Rattle.renamer.proofs.OrderShare.{same_source-true, operand-count, Reaches, leaves-reaches, store-parts, leaves-conflict_first, leaves-conflict_second}
+use Rattle.renamer.proofs.OrderShare.{operand-count, Reaches, leaves-reaches, store-parts, leaves-conflict_first, leaves-conflict_second}
+use Rattle.sl_laws.proofs.Sources.{same_source-true}
+use Rattle.sl_laws.proofs.State.{IsWithin, landed, load-same, read-write_all, write_all-memory, length-loaded_by}
+use Rattle.sl_laws.proofs.Elements.{length-filter_map}
+use Rattle.sl_laws.proofs.Padded.{padded-back}
+use Rattle.sl_laws.proofs.Orders.{above-stands, standing-passes}
+use Rattle.sl_laws.proofs.Valid.{operands-few}
+use Rattle.sl_model.specs.Machine.{space_of}
 
 -- There is a value or there is none.
 some_or_none : (o : Option ℕ) → (is_some o ≡ true) ⊎ (o ≡ None)
 some_or_none None = inr refl
 some_or_none (Some v) = inl refl
 
--- The registers of as many places as they fill at most.
-unpadded : (n : ℕ) (regs : List Reg) → length regs ≤ n → filter_map (λ r. r) (padded n regs) ≡ regs
-unpadded zero [] fits = refl
-unpadded zero (r ∷ regs) fits = absurd (omega arith)
-unpadded (suc n) [] fits = unpadded n [] (omega arith)
-unpadded (suc n) (r ∷ regs) fits = ap (λ xs. r ∷ xs) (unpadded n regs (omega arith))
-
--- padded registers fill all places
-length-padded : (n : ℕ) (regs : List Reg) → length (padded n regs) ≡ n
-length-padded zero regs = refl
-length-padded (suc n) [] = ap suc (length-padded n [])
-length-padded (suc n) (r ∷ regs) = ap suc (length-padded n regs)
-
-module _ {X Y : Type 0} (h : X → Option Y) where
-  -- what one element adds
-  one_more : (o : Option Y) (ys : List Y) (n : ℕ) → length ys ≤ n → length (cons_option o ys) ≤ suc n
-  one_more None ys n fits = omega arith
-  one_more (Some y) ys n fits = omega arith
-
-  -- Filtering makes no list longer.
-  length-filter_map : (xs : List X) → length (filter_map h xs) ≤ length xs
-  length-filter_map [] = omega arith
-  length-filter_map (x ∷ xs) = one_more (h x) (filter_map h xs) (length xs) (length-filter_map xs)
-
--- An instruction has at most four operands.
-operands-few : (isa : Isa) (i : Instr) → IsValid isa i → length (operands i) ≤ 4
-operands-few isa i valid =
-    let most : length (operands i) ≤ length i.ins = length-filter_map (λ r. r) i.ins in
-    let places : length i.ins ≡ 4 = ap (λ xs. length xs) valid.ins_shape ∙ length-padded 4 (operands i) in
-    omega arith
-
 -- Values depend on no more of memory than what is loaded.
-values-same : (isa : Isa) (i : Instr) (ins : List ℕ) (m n : FinMap nat_cmp ℕ) → ((at : ℕ) → is_load (isa.info i.form) ≡ true → IsWithin isa.space (address_of isa i ins) (isa.info i.form).size at → byte m at ≡ byte n at) → values_of isa i ins m ≡ values_of isa i ins n
+values-same : (isa : Isa) (i : Instr) (ins : List ℕ) (m n : FinMap nat_cmp ℕ) → ((at : ℕ) → is_load (isa.info i.form) ≡ true → IsWithin (space_of isa.name) (address_of isa i ins) (isa.info i.form).size at → byte m at ≡ byte n at) → values_of isa i ins m ≡ values_of isa i ins n
 unfolding values_of loaded_by
 values-same isa i ins m n same = ⊎_elim
     (λ (loads : is_load (isa.info i.form) ≡ true).
-    let bytes : load isa.space m (address_of isa i ins) (isa.info i.form).size ≡ load isa.space n (address_of isa i ins) (isa.info i.form).size =
-    load-same isa.space m n (address_of isa i ins) (isa.info i.form).size (λ j inside. same _ loads (record { place = j; below = inside; is = refl })) in
+    let bytes : load (space_of isa.name) m (address_of isa i ins) (isa.info i.form).size ≡ load (space_of isa.name) n (address_of isa i ins) (isa.info i.form).size =
+    load-same (space_of isa.name) m n (address_of isa i ins) (isa.info i.form).size (λ j inside. same _ loads (record { place = j; below = inside; is = refl })) in
     ap (λ xs. isa.values (op_of i) ins (cond (is_load (isa.info i.form)) xs [])) bytes)
     (λ (quiet : is_load (isa.info i.form) ≡ false).
-    ap (isa.values (op_of i) ins) (cond-false (is_load (isa.info i.form)) (load isa.space m (address_of isa i ins) (isa.info i.form).size) [] quiet
-    ∙ sym (cond-false (is_load (isa.info i.form)) (load isa.space n (address_of isa i ins) (isa.info i.form).size) [] quiet)))
-    (cases_Bool (is_load (isa.info i.form)))
-
--- As many bytes are loaded as the form says.
-loaded-count : (isa : Isa) (i : Instr) (ins : List ℕ) (m : FinMap nat_cmp ℕ) → length (loaded_by isa i ins m) ≡ load_size isa i.form
-unfolding loaded_by
-loaded-count isa i ins m = ⊎_elim
-    (λ (loads : is_load (isa.info i.form) ≡ true).
-    ap (λ xs. length xs) (cond-true (is_load (isa.info i.form)) (load isa.space m (address_of isa i ins) (isa.info i.form).size) [] loads)
-    ∙ length-load isa.space m (address_of isa i ins) (isa.info i.form).size
-    ∙ sym (cond-true (is_load (isa.info i.form)) (isa.info i.form).size 0 loads))
-    (λ (quiet : is_load (isa.info i.form) ≡ false).
-    ap (λ xs. length xs) (cond-false (is_load (isa.info i.form)) (load isa.space m (address_of isa i ins) (isa.info i.form).size) [] quiet)
-    ∙ sym (cond-false (is_load (isa.info i.form)) (isa.info i.form).size 0 quiet))
+    ap (isa.values (op_of i) ins) (cond-false (is_load (isa.info i.form)) (load (space_of isa.name) m (address_of isa i ins) (isa.info i.form).size) [] quiet
+    ∙ sym (cond-false (is_load (isa.info i.form)) (load (space_of isa.name) n (address_of isa i ins) (isa.info i.form).size) [] quiet)))
     (cases_Bool (is_load (isa.info i.form)))
 
 -- A load has an access.
@@ -126,7 +88,7 @@ pub placed-others : (c : Choice) (done : List Choice) (q : ℕ) → eqb c.item q
 unfolding is_placed
 placed-others c done q other = ap (λ t. t || is_placed done q) other
 
-module _ (isa : Isa) (body : Body) (s : State) (lawful : IsLawful isa) (sound : IsSound isa body) (tags : TagsHoldOf isa.space (flow_of isa body s).touches)
+module _ (isa : Isa) (body : Body) (s : State) (lawful : IsLawful isa) (sound : IsSound isa body) (tags : TagsHoldOf (space_of isa.name) (flow_of isa body s).touches)
     (done : List Choice) (t : State) (c : Choice) (reached : Reached isa body s done t) (next : IsFaithfulNext isa body done c) where
   -- The operands of the chosen item read the values of the flow.
   pub step-operands : operand_values (applied_item body done c) t ≡ operands_of isa body s c.item
@@ -134,13 +96,13 @@ module _ (isa : Isa) (body : Body) (s : State) (lawful : IsLawful isa) (sound : 
       let many : length (filter_map (given done) (body.sources c.item)) ≤ length (body.sources c.item) = length-filter_map (given done) (body.sources c.item) in
       let same : length (body.sources c.item) ≡ length (operands (body.instr c.item)) = sound.operands_have c.item next.known in
       let few : length (operands (body.instr c.item)) ≤ 4 = operands-few isa (body.instr c.item) (sound.items c.item next.known) in
-      ap (map (read t)) (unpadded 4 (filter_map (given done) (body.sources c.item)) (omega arith))
+      ap (map (read t)) (padded-back 4 (filter_map (given done) (body.sources c.item)) (omega arith))
       ∙ given-values done t (source_value s (flow_of isa body s).values) (body.sources c.item) reached.registers next.sources
 
   -- An item above the chosen one that conflicts with it is placed.
   placed-above : (q : ℕ) → stands_in q (above c.item body.order) ≡ true → conflict isa body q c.item ≡ true → is_placed done q ≡ true
   placed-above q up conflicts =
-      let rule : (not (conflict isa body q c.item) || is_placed done q) ≡ true = list_all-at (λ p. not (conflict isa body p c.item) || is_placed done p) (above c.item body.order) q next.conflicts up in
+      let rule : (not (conflict isa body q c.item) || is_placed done q) ≡ true = standing-passes (λ p. not (conflict isa body p c.item) || is_placed done p) (above c.item body.order) q next.conflicts up in
       ⊎_elim
       (λ (apart : not (conflict isa body q c.item) ≡ true). absurd (both_ways (conflict isa body q c.item) (not-true _ apart) conflicts))
       (λ (placed : is_placed done q ≡ true). placed)
@@ -189,7 +151,7 @@ module _ (isa : Isa) (body : Body) (s : State) (lawful : IsLawful isa) (sound : 
   step-count : length (chosen c) ≡ length outs
   unfolding values_of
   step-count = next.outputs ∙ sym (lawful.value_count (body.instr c.item) (operands_of isa body s c.item) (loaded_by isa (body.instr c.item) (operands_of isa body s c.item) t.memory) (sound.items c.item next.known)
-      (operand-count isa body s lawful sound tags c.item next.known) (loaded-count isa (body.instr c.item) (operands_of isa body s c.item) t.memory))
+      (operand-count isa body s lawful sound tags c.item next.known) (length-loaded_by isa (body.instr c.item) (operands_of isa body s c.item) t.memory))
 
   -- what the chosen item does, said with the flow's operands
   abbrev written_state : State

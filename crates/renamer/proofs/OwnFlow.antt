@@ -1,54 +1,28 @@
 -- The flow of a list's own body is its run.
-use Rattle.std.proofs.Common.{◌≡◌, ◌≢◌, ℕ, zero, suc, ◌+◌, ◌<◌, ◌≤◌, Bool, true, false, ◌&&◌, not, eqb, List, [], ◌∷◌, ◌++◌, append-nil, append_assoc, map, reverse, length, take, take_all, take-suc, Option, None, Some, ⊎_elim, if◌then◌else◌, refl, sym, ap, subst, ◌∙◌, true≢false, arith, eq-eqb, length-take-le, le_refl, le_of_lt, slice_get, slice_index, nat_cmp}
+use Rattle.std.proofs.Common.{◌≡◌, ◌≢◌, ℕ, zero, suc, ◌<◌, ◌≤◌, true, false, List, [], ◌∷◌, ◌++◌, append-nil, append_assoc, map, reverse, length, take, take_all, take-suc, Option, None, Some, ⊎_elim, if◌then◌else◌, refl, sym, ap, subst, ◌∙◌, true≢false, arith, eq-eqb, length-take-le, le_refl, le_of_lt, slice_get, slice_index, nat_cmp}
 use Rattle.std.specs.FinMap.{FinMap}
 use Rattle.std.specs.List.{list_any, zip}
 use Rattle.std.proofs.lemmas.List.{reverse-append, length-map}
 use Rattle.std.proofs.lemmas.Simd.{map-map}
 use Rattle.std.proofs.Math.ListN.{length-reverse}
-use Rattle.std.proofs.lemmas.Bool.{ne_eqb}
+use Rattle.std.proofs.lemmas.Bool.{ne_eqb, cases_Bool}
 use Rattle.sl_model.specs.declared.register.Reg.{Reg}
-use Rattle.sl_model.specs.declared.register.RegSet.{RegSet}
 use Rattle.sl_model.specs.declared.instruction.Instr.{Instr}
 use Rattle.sl_model.specs.declared.schedule.Source.{Source}
 use Rattle.sl_model.specs.declared.schedule.Source.TheVariants.{Entry, Item}
-use Rattle.sl_model.specs.Register.{same_reg}
-use Rattle.sl_model.specs.RegSets.{set_has, set_count}
-use Rattle.sl_model.specs.State.{State, read, is_zero, load}
+use Rattle.sl_model.specs.RegSets.{set_has}
+use Rattle.sl_model.specs.State.{State, read, is_zero}
 use Rattle.sl_model.specs.Source.{operands, outputs, item_at, no_instr, list_sources, source_of, place_from, output_or}
 use Rattle.sl_model.specs.Isa.{Isa}
-use Rattle.sl_model.specs.Exec.{exec, run, touches, touches_of, operand_values, values_of, memory_after, loaded_by, is_load, address_of}
+use Rattle.sl_model.specs.Exec.{exec, run, touches, touches_of, operand_values, values_of, memory_after}
 use Rattle.sl_model.specs.Body.{Body, Flow, flow_item, flow_from, flow_of, source_value, sources_values, output_value}
-use Rattle.sl_model.specs.Lawful.{IsLawful, IsValid, suits_set, zero_register}
+use Rattle.sl_model.specs.Lawful.{IsLawful, IsValid, suits_set, zero_register, AreValid}
 use Rattle.sl_model.specs.Legal.{numbers_below}
 use Rattle.renamer.specs.Faithful.{own_body, FlowIsRun}
-use Rattle.renamer.specs.WellPosed.{AreValid}
-use Rattle.std.proofs.lemmas.Bool.{cases_Bool}
-use Rattle.renamer.proofs.OwnTests.{list_all-at, list_any-at, list_any-from_each, zip-at, element_at}
 use Rattle.std.proofs.lemmas.Option.{slice_get_within}
-use Rattle.sl_model.specs.Register.{bank_number, same_bool}
-use Rattle.renamer.proofs.OrderState.{landed, same_reg-true, read-write_all, write_all-memory, length-load}
-
--- as many sets as have a register are at most all
-pub set_count-bound : (sets : List RegSet) → set_count sets ≤ length sets
-unfolding set_count
-set_count-bound [] = omega arith
-set_count-bound (set ∷ sets) = bound (eqb set.bits 0) (set_count sets) (length sets) (set_count-bound sets)
-  where
-    bound : (b : Bool) (m n : ℕ) → m ≤ n → (if b then 0 else 1) + m ≤ suc n
-    bound true m n le = omega arith
-    bound false m n le = omega arith
-
--- the zero register is the one that the test finds
-pub is_zero-register : (r : Reg) → is_zero r ≡ true → r ≡ zero_register
-unfolding same_reg
-is_zero-register r found = same_reg-true r zero_register (is_same r ∙ found)
-  where
-    not_symbolic : (b : Bool) → same_bool b false ≡ not b
-    not_symbolic true = refl
-    not_symbolic false = refl
-
-    is_same : (r : Reg) → same_reg r zero_register ≡ is_zero r
-    is_same r = ap (λ b. eqb (bank_number r.bank) 0 && (b && eqb r.number 31)) (not_symbolic r.symbolic)
+use Rattle.sl_laws.proofs.RegSets.{is_zero-register, set_count-bound}
+use Rattle.sl_laws.proofs.State.{landed, read-write_all, write_all-memory, length-values_of}
+use Rattle.sl_laws.proofs.Elements.{element_at, list_all-at, list_any-at, list_any-from_each, zip-at}
 
 -- no instruction of a lawful set writes the zero register
 pub plain_outputs : (isa : Isa) (i : Instr) → IsLawful isa → IsValid isa i → list_any is_zero (outputs i) ≡ false
@@ -63,21 +37,10 @@ plain_outputs isa i lawful valid = list_any-from_each is_zero (outputs i) (λ k 
         let lacks : set_has set.0 zero_register ≡ false = list_any-at (λ x. set_has x zero_register) (isa.info i.form).out_sets k set.0 (lawful.writable i.form) set.1 in
         true≢false (sym suits ∙ lacks)
 
--- a list that may be left out has as many elements, or none
-length-if : (b : Bool) (xs : List ℕ) (n : ℕ) → length xs ≡ n → length (if b then xs else []) ≡ (if b then n else 0)
-length-if true xs n e = e
-length-if false xs n e = refl
-
 -- the memory has no part in what a register reads
 read-memory : (s : State) (memory : FinMap nat_cmp ℕ) (r : Reg) → read (record { regs = s.regs; memory = memory }) r ≡ read s r
 unfolding read
 read-memory s memory r = refl
-
--- an instruction gives a value for each output
-pub values_count : (isa : Isa) (i : Instr) (ins : List ℕ) (memory : FinMap nat_cmp ℕ) → IsLawful isa → IsValid isa i → length ins ≡ length (operands i) → length (values_of isa i ins memory) ≡ length (outputs i)
-unfolding values_of loaded_by
-values_count isa i ins memory lawful valid given = lawful.value_count i ins (loaded_by isa i ins memory) valid given
-    (length-if (is_load (isa.info i.form)) (load isa.space memory (address_of isa i ins) (isa.info i.form).size) (isa.info i.form).size (length-load isa.space memory (address_of isa i ins) (isa.info i.form).size))
 
 -- what a register reads after an instruction
 pub read-exec : (isa : Isa) (i : Instr) (s : State) (r : Reg) → IsLawful isa → IsValid isa i → read (exec isa i s) r ≡ landed (place_from 0 r (outputs i)) (values_of isa i (operand_values i s) s.memory) (read s r)
@@ -86,7 +49,7 @@ read-exec isa i s r lawful valid =
     let given : length (operand_values i s) ≡ length (operands i) = length-map (operands i) (read s) in
     let values : List ℕ = values_of isa i (operand_values i s) s.memory in
     let memory : FinMap nat_cmp ℕ = memory_after isa i (operand_values i s) s.memory in
-    read-write_all (outputs i) values (record { regs = s.regs; memory = memory }) r (plain_outputs isa i lawful valid) valid.distinct (sym (values_count isa i (operand_values i s) s.memory lawful valid given))
+    read-write_all (outputs i) values (record { regs = s.regs; memory = memory }) r (plain_outputs isa i lawful valid) valid.distinct (sym (length-values_of isa i (operand_values i s) s.memory lawful valid given))
     ∙ ap (λ v. landed (place_from 0 r (outputs i)) values v) (read-memory s memory r)
 
 -- the memory after an instruction

@@ -17,23 +17,22 @@ use Rattle.sl_model.specs.Cycles.{CostTable}
 use Rattle.sl_model.specs.Isa.{Isa}
 use Rattle.sl_model.specs.Exec.{run, touches, touches_of, values_of, memory_after}
 use Rattle.sl_model.specs.Body.{Body, Flow, flow_from, flow_of, source_value, sources_values, chosen, held, stands_in, applied}
-use Rattle.sl_model.specs.Lawful.{IsLawful}
+use Rattle.sl_model.specs.Lawful.{IsLawful, AreValid}
 use Rattle.sl_model.specs.Legal.{Problem, IsLegalNext, IsLegalFrom, IsFullLegal, allowed_in, body_of, numbers_below, sources_in, straight_problem, written}
 use Rattle.sl_model.specs.Program.{Leaves, TagsHoldOf, is_one_of, times_of}
 use Rattle.sl_model.specs.Program.Program.{Straight}
 use Rattle.renamer.specs.Faithful.{IsSound, Carries, FlowIsRun, own_body}
-use Rattle.renamer.specs.WellPosed.{AreValid}
 use Rattle.renamer.proofs.OrderRun.{order-carries}
-use Rattle.std.proofs.lemmas.Bool.{cases_Bool}
-use Rattle.renamer.proofs.OrderState.{same_reg-true}
-use Rattle.renamer.proofs.OwnTests.{or_left, or_right, place_from-at, place_from-misses}
+use Rattle.std.proofs.lemmas.Bool.{cases_Bool, or_parts, or_right}
 use Rattle.renamer.proofs.OwnFlow.{own_flow-run}
 use Rattle.renamer.proofs.LegalityRules.{SuitsOutput, suits_outputs}
 use Rattle.renamer.proofs.LegalityFaithful.{legal-faithful}
 use Rattle.renamer.proofs.LegalityFinals.{finals-hold}
-use Rattle.renamer.proofs.StraightNumbers.{below-lt}
 use Rattle.renamer.proofs.StraightSets.{is_one_of-any, set_of-lacks}
 use Rattle.renamer.proofs.StraightPosed.{straight_sources, straight-sound, straight-made}
+use Rattle.sl_laws.proofs.Numbers.{below-lt}
+use Rattle.sl_laws.proofs.Registers.{place_from-at, place_from-misses, same_reg-true}
+use Rattle.sl_model.specs.Machine.{space_of}
 
 -- an item of a flow, by its instruction and its sources
 flow_with : Isa → State → Flow → ℕ → Instr → List Source → Flow
@@ -49,11 +48,7 @@ unfolding flow_from stands_in flow_with
 flow_from-agree isa instr f g whole s flow [] agree = refl
 flow_from-agree isa instr f g whole s flow (p ∷ order) agree =
     ap (λ sources. flow_from isa (record { instr = instr; sources = f; order = whole }) s (flow_with isa s flow p (instr p) sources) order) (agree p (ap (λ b. b || stands_in p order) (eq-eqb p p refl)))
-    ∙ flow_from-agree isa instr f g whole s (flow_with isa s flow p (instr p) (g p)) order (λ q stands. agree q (or_true (eqb p q) (stands_in q order) stands))
-  where
-    or_true : (a b : Bool) → b ≡ true → (a || b) ≡ true
-    or_true true b e = refl
-    or_true false b e = e
+    ∙ flow_from-agree isa instr f g whole s (flow_with isa s flow p (instr p) (g p)) order (λ q stands. agree q (or_right (eqb p q) (stands_in q order) stands))
 
 -- the straight problem has the flow of the list's own body
 pub straight-flow : (isa : Isa) (items : List Instr) (live free : List Reg) (costs : CostTable) (s : State) → flow_of isa (body_of (straight_problem items live free costs)) s ≡ flow_of isa (own_body items) s
@@ -92,10 +87,10 @@ neither : (r : Reg) (written live free : List Reg) → is_one_of r (written ++ (
 neither r written live free none =
     let test : Reg → Bool = λ q. same_reg q r in
     let apart : (list_any test written || list_any test (live ++ free)) ≡ false = sym (list_any-append test written (live ++ free)) ∙ sym (is_one_of-any r (written ++ (live ++ free))) ∙ none in
-    let rest : (list_any test live || list_any test free) ≡ false = sym (list_any-append test live free) ∙ or_right (list_any test written) (list_any test (live ++ free)) apart in
+    let rest : (list_any test live || list_any test free) ≡ false = sym (list_any-append test live free) ∙ (or_parts (list_any test written) (list_any test (live ++ free)) apart).1 in
     list_any-append test written free
-    ∙ ap (λ b. b || list_any test free) (or_left (list_any test written) (list_any test (live ++ free)) apart)
-    ∙ or_right (list_any test live) (list_any test free) rest
+    ∙ ap (λ b. b || list_any test free) (or_parts (list_any test written) (list_any test (live ++ free)) apart).0
+    ∙ (or_parts (list_any test live) (list_any test free) rest).1
 
 -- a register that is one of some stands among them
 is_one_of-at : (r : Reg) (regs : List Reg) → is_one_of r regs ≡ true → (k : ℕ) × (slice_get regs k ≡ Some r)
@@ -113,7 +108,7 @@ final_at items live free costs r one =
     (found.0, slice_get-map final live found.0 ∙ ap (option_map final) found.1)
 
 -- A full legal schedule of a straight list leaves what the list leaves.
-pub straight-leaves : (isa : Isa) (items : List Instr) (live free : List Reg) (costs : CostTable) (schedule : List Choice) (s : State) (decrement : Bool → Reg → Instr) → IsLawful isa → AreValid isa items → IsFullLegal isa (straight_problem items live free costs) schedule → TagsHoldOf isa.space (touches isa items s) → Leaves isa decrement live free (Straight items) (Straight (applied (body_of (straight_problem items live free costs)) schedule)) s
+pub straight-leaves : (isa : Isa) (items : List Instr) (live free : List Reg) (costs : CostTable) (schedule : List Choice) (s : State) (decrement : Bool → Reg → Instr) → IsLawful isa → AreValid isa items → IsFullLegal isa (straight_problem items live free costs) schedule → TagsHoldOf (space_of isa.name) (touches isa items s) → Leaves isa decrement live free (Straight items) (Straight (applied (body_of (straight_problem items live free costs)) schedule)) s
 unfolding held
 straight-leaves isa items live free costs schedule s decrement lawful valid legal tags =
     let problem : Problem = straight_problem items live free costs in
@@ -123,7 +118,7 @@ straight-leaves isa items live free costs schedule s decrement lawful valid lega
     let one : flow_of isa body s ≡ flow_of isa (own_body items) s = straight-flow isa items live free costs s in
     let accesses : touches isa items s ≡ (flow_of isa body s).touches = own.accesses ∙ ap (λ (flow : Flow). flow.touches) (sym one) in
     let memory : (flow_of isa body s).memory ≡ (run isa items s).memory = ap (λ (flow : Flow). flow.memory) one ∙ sym own.memory in
-    let carried : Carries isa body schedule s = order-carries isa body s lawful sound (subst (TagsHoldOf isa.space) accesses tags) schedule (legal-faithful isa problem [] schedule lawful sound legal.legal) legal.full in
+    let carried : Carries isa body schedule s = order-carries isa body s lawful sound (subst (TagsHoldOf (space_of isa.name)) accesses tags) schedule (legal-faithful isa problem [] schedule lawful sound legal.legal) legal.full in
     record {
       registers = λ r live_out.
           let final = final_at items live free costs r live_out in

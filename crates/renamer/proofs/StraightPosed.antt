@@ -2,7 +2,7 @@
 use Rattle.std.proofs.Common.{◌≡◌, ℕ, zero, suc, ◌<◌, ◌≤◌, true, false, not, nat_lt, List, [], ◌∷◌, map, map-id, reverse, length, take, take_all, take-suc, length-take-le, le_refl, le_of_lt, Option, None, Some, ⊎_elim, refl, sym, ap, subst, ◌∙◌, true≢false, arith, slice_get, option_map, is_some, lt-ltb}
 use Rattle.std.specs.List.{list_all, list_any}
 use Rattle.std.proofs.Math.ListN.{length-reverse}
-use Rattle.std.proofs.lemmas.List.{reverse-append, length-map}
+use Rattle.std.proofs.lemmas.List.{reverse-append}
 use Rattle.std.proofs.lemmas.List.Folds.{list_all-map}
 use Rattle.std.proofs.lemmas.Simd.{map-map}
 use Rattle.std.proofs.lemmas.Option.{slice_get_within, slice_get-map, get_or_from_slice_get}
@@ -17,13 +17,16 @@ use Rattle.sl_model.specs.Isa.{Isa}
 use Rattle.sl_model.specs.Body.{above, stands_in, all_differ, same_source}
 use Rattle.sl_model.specs.Legal.{sources_in, body_of, numbers_below, straight_problem}
 use Rattle.renamer.specs.Faithful.{IsSound, comes_from}
-use Rattle.renamer.specs.WellPosed.{AreValid, IsWellPosed, is_made, sources_differ}
-use Rattle.std.proofs.lemmas.Bool.{not-true, cases_Bool}
-use Rattle.renamer.proofs.OrderState.{same_reg-refl}
-use Rattle.renamer.proofs.OrderShare.{same_source-true}
-use Rattle.renamer.proofs.OwnTests.{and_left, and_right, both, list_any-map, list_all-from_each, list_any-from_each, place_from-at, place_from-none, is_none_from}
+use Rattle.sl_model.specs.Lawful.{AreValid}
+use Rattle.renamer.specs.WellPosed.{IsWellPosed, is_made, sources_differ}
+use Rattle.std.proofs.lemmas.Bool.{not-true, cases_Bool, and_parts, and_from}
 use Rattle.renamer.proofs.OwnFlow.{IsBefore, IsBefore-source_of}
-use Rattle.renamer.proofs.StraightNumbers.{below-lt, lt-below, above-below, once-below, at-below}
+use Rattle.renamer.proofs.StraightNumbers.{once-below}
+use Rattle.sl_laws.proofs.Tests.{is_none_from}
+use Rattle.sl_laws.proofs.Numbers.{above-below, at-below, below-lt, lt-below}
+use Rattle.sl_laws.proofs.Sources.{length-list_sources, same_source-true}
+use Rattle.sl_laws.proofs.Elements.{list_all-from_each, list_any-from_each, list_any-map}
+use Rattle.sl_laws.proofs.Registers.{place_from-at, place_from-none, same_reg-refl}
 
 -- the sources of an item in the straight problem are those in the list
 pub straight_sources : (items : List Instr) (live free : List Reg) (costs : CostTable) (p : ℕ) → p < length items → sources_in (straight_problem items live free costs) p ≡ list_sources items p
@@ -47,11 +50,6 @@ list_sources-before items p within =
     list_all-map (comes_from (numbers_below p)) (λ r. source_of r (reverse (take p items))) (operands (item_at items p))
     ∙ list_all-from_each (λ r. comes_from (numbers_below p) (source_of r (reverse (take p items)))) (operands (item_at items p)) (λ k r at.
     comes_from_before p (source_of r (reverse (take p items))) (subst (λ n. IsBefore n (source_of r (reverse (take p items)))) (length-above items p (le_of_lt within)) (IsBefore-source_of r (reverse (take p items)))))
-
--- there is a source for each operand
-length-list_sources : (items : List Instr) (p : ℕ) → length (list_sources items p) ≡ length (operands (item_at items p))
-unfolding list_sources
-length-list_sources items p = length-map (operands (item_at items p)) (λ r. source_of r (reverse (take p items)))
 
 -- The straight problem of valid items is a sound body.
 pub straight-sound : (isa : Isa) (items : List Instr) (live free : List Reg) (costs : CostTable) → AreValid isa items → IsSound isa (body_of (straight_problem items live free costs))
@@ -100,7 +98,7 @@ makes-last items r = subst (λ l. Makes items (length items) r (source_of r (rev
 made_from : (items : List Instr) (live free : List Reg) (costs : CostTable) (r : Reg) (value : Source) → Makes items (length items) r value → is_made (straight_problem items live free costs) (r, value) ≡ true
 made_from items live free costs r (Entry q) makes = ap (same_reg q) (sym makes) ∙ same_reg-refl q
 made_from items live free costs r (Item item place) makes =
-    both (stands_in item (numbers_below (length items))) (nat_lt place (length (outputs (item_at items item))))
+    and_from (stands_in item (numbers_below (length items))) (nat_lt place (length (outputs (item_at items item))))
     (lt-below (length items) item makes.0)
     (lt-ltb place (length (outputs (item_at items item))) (slice_get_within (outputs (item_at items item)) place r makes.1))
 
@@ -120,12 +118,12 @@ last_sources-differ : (items : List Instr) (live : List Reg) → all_differ live
 unfolding all_differ sources_differ
 last_sources-differ items [] differ = refl
 last_sources-differ items (r ∷ live) differ =
-    both (not (list_any (same_source (last_source items r)) (map (last_source items) live))) (sources_differ (map (last_source items) live))
+    and_from (not (list_any (same_source (last_source items r)) (map (last_source items) live))) (sources_differ (map (last_source items) live))
     (ap not (list_any-map (same_source (last_source items r)) (last_source items) live ∙ list_any-from_each (λ q. same_source (last_source items r) (last_source items q)) live (λ k q at. other k q at)))
-    (last_sources-differ items live (and_right (not (is_some (place_from 0 r live))) (all_differ live) differ))
+    (last_sources-differ items live (and_parts (not (is_some (place_from 0 r live))) (all_differ live) differ).1)
   where
     none : place_from 0 r live ≡ None
-    none = is_none_from (place_from 0 r live) (not-true (is_some (place_from 0 r live)) (and_left (not (is_some (place_from 0 r live))) (all_differ live) differ))
+    none = is_none_from (place_from 0 r live) (not-true (is_some (place_from 0 r live)) (and_parts (not (is_some (place_from 0 r live))) (all_differ live) differ).0)
 
     other : (k : ℕ) (q : Reg) → slice_get live k ≡ Some q → same_source (last_source items r) (last_source items q) ≡ false
     other k q at = ⊎_elim (λ t.

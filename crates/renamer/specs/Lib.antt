@@ -1,4 +1,3 @@
-pub mod Example
 pub mod Faithful
 pub mod Outcome
 pub mod WellPosed

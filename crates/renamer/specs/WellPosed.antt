@@ -1,34 +1,30 @@
 -- What a problem needs so that its legal schedules compute what its items compute.
-use Rattle.std.specs.Prelude.{ℕ, ◌≡◌, ◌<◌, Bool, true, ◌&&◌, not, nat_lt, map, [], ◌∷◌, List, length}
+use Rattle.std.specs.Prelude.{◌≡◌, Bool, true, ◌&&◌, not, nat_lt, map, [], ◌∷◌, List, length}
 use Rattle.std.specs.List.{list_all, list_any}
 use Rattle.sl_model.specs.declared.register.Reg.{Reg}
-use Rattle.sl_model.specs.declared.instruction.Instr.{Instr}
 use Rattle.sl_model.specs.declared.schedule.Source.{Source}
 use Rattle.sl_model.specs.declared.schedule.Source.TheVariants.{Entry, Item}
 use Rattle.sl_model.specs.Register.{same_reg}
 use Rattle.sl_model.specs.Source.{outputs, item_at}
 use Rattle.sl_model.specs.Isa.{Isa}
 use Rattle.sl_model.specs.Body.{same_source, stands_in, all_differ}
-use Rattle.sl_model.specs.Lawful.{IsValid}
 use Rattle.sl_model.specs.Legal.{Problem, body_of}
 use Rattle.renamer.specs.Faithful.{IsSound}
 
--- All items of a list are instructions of the set.
-abbrev pub AreValid : Isa → List Instr → Type 0
-AreValid isa items = (p : ℕ) → p < length items → IsValid isa (item_at items p)
-
--- Is a value that must stand in a register at the end an output of an item, or what that register held before?
+-- Is a value that must stand in a register at the end an output of an item, or
+-- what that register held before?
 abbrev pub is_made : Problem → Reg × Source → Bool
 is_made problem (r, Entry q) = same_reg q r
-is_made problem (r, Item item place) = stands_in item problem.order && nat_lt place (length (outputs (item_at problem.items item)))
+is_made problem (r, Item item place) =
+    stands_in item problem.order && nat_lt place (length (outputs (item_at problem.items item)))
 
 -- Do all sources of a list differ?
 unfoldable pub sources_differ : List Source → Bool
 sources_differ [] = true
 sources_differ (value ∷ values) = not (list_any (same_source value) values) && sources_differ values
 
--- The items of a problem have a meaning; its finals are in different registers and are different values, and each is
--- made in the problem.
+-- The items of a problem have a meaning; its finals are in different registers and are different
+-- values, and each is made in the problem.
 pub record IsWellPosed (isa : Isa) (problem : Problem) : Type 0 where
   pub sound : IsSound isa (body_of problem)
   pub registers_differ : all_differ (map (λ f. f.0) problem.finals) ≡ true

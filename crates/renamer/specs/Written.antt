@@ -1,16 +1,10 @@
--- Which registers instructions and choices write.
+-- Which registers choices write.
 use Rattle.std.specs.Prelude.{Bool, List}
 use Rattle.std.specs.List.{list_any}
 use Rattle.sl_model.specs.declared.register.Reg.{Reg}
-use Rattle.sl_model.specs.declared.instruction.Instr.{Instr}
 use Rattle.sl_model.specs.declared.schedule.Choice.{Choice}
-use Rattle.sl_model.specs.Source.{outputs}
 use Rattle.sl_model.specs.Body.{chosen}
 use Rattle.sl_model.specs.Program.{is_one_of}
-
--- Is a register an output of one of these instructions?
-abbrev pub is_output : Reg → List Instr → Bool
-is_output r items = list_any (λ i. is_one_of r (outputs i)) items
 
 -- Did one of these choices take a register for an output?
 abbrev pub is_chosen : Reg → List Choice → Bool

@@ -4,24 +4,26 @@ ghost use Rattle.std.specs.List.{list_all, filter_map};
 ghost use Rattle.sl_model.specs.State.{State};
 ghost use Rattle.sl_model.specs.Isa.{Isa};
 ghost use Rattle.sl_model.specs.Body.{given, applied_item, applied, flow_of};
-ghost use Rattle.sl_model.specs.Lawful.{IsLawful};
+ghost use Rattle.sl_model.specs.Lawful.{IsLawful, AreValid};
 ghost use Rattle.sl_model.specs.Legal.{IsFullLegal, body_of};
 ghost use Rattle.sl_model.specs.Program.{TagsHoldOf};
 ghost use Rattle.renamer.specs.Faithful.{IsSound};
 ghost use Rattle.renamer.specs.Outcome.{CarriesProblem};
-ghost use Rattle.renamer.specs.WellPosed.{AreValid, IsWellPosed};
+ghost use Rattle.renamer.specs.WellPosed.{IsWellPosed};
+ghost use Rattle.sl_model.specs.Machine.{space_of};
 
+use crate::order::faithful_order_carries;
 use legal_space::{Choice, Problem, Source, given};
 use sl_base::NoMemory;
 use sl_model::instruction::Instr;
 use sl_model::register::Reg;
 use std::alloc::Global;
 
-/// The items of a problem in the order of a schedule, each output in its chosen register and each operand in the
-/// register given to its source. Each choice is of an item of the problem.
+/// The items of a problem in the order of a schedule, each output in its chosen register and each
+/// operand in the register given to its source. Each choice is of an item of the problem.
 ///
-/// Of a full legal schedule of a well-posed problem these are instructions of the set, and they do what the problem's
-/// items do, whatever the instruction set and the state.
+/// Of a full legal schedule of a well-posed problem these are instructions of the set, and they do
+/// what the problem's items do, whatever the instruction set and the state.
 pub fn apply(
     alloc: Global,
     problem: &Problem,
@@ -29,14 +31,19 @@ pub fn apply(
     schedule: &[Choice],
 ) -> Result<Vec<Instr>, NoMemory>
     requires items { items.now ≡ problem.now.items }
-    requires known { IsTrue (list_all (λ c. nat_lt c.item (length problem.now.items)) schedule.now) }
-    ensures applied { IfOk result (λ list. list.items ≡ applied (body_of problem.now) schedule.now) }
+    requires known { IsTrue
+        (list_all (λ c. nat_lt c.item (length problem.now.items)) schedule.now) }
+    ensures applied { IfOk result
+        (λ list. list.items ≡ applied (body_of problem.now) schedule.now) }
     ensures carries { (isa : Isa) (s : State) → IsLawful isa → IsWellPosed isa problem.now
-        → IsFullLegal isa problem.now schedule.now → TagsHoldOf isa.space (flow_of isa (body_of problem.now) s).touches
+        → IsFullLegal isa problem.now schedule.now
+        → TagsHoldOf (space_of isa.name) (flow_of isa (body_of problem.now) s).touches
         → IfOk result (λ list. CarriesProblem isa problem.now schedule.now list.items s) }
-    ensures valid { (isa : Isa) → IsSound isa (body_of problem.now) → IsFullLegal isa problem.now schedule.now
+    ensures valid { (isa : Isa) → IsSound isa (body_of problem.now)
+        → IsFullLegal isa problem.now schedule.now
         → IfOk result (λ list. AreValid isa list.items) }
 {
+    faithful_order_carries();
     let mut list = Vec::with_capacity(alloc, schedule.len())?;
     for (place, choice) in schedule.iter().enumerate() {
         list.push_reserved(applied_item(problem, items, &schedule[..place], choice));

@@ -4,9 +4,4 @@
 pub use applied::apply;
 
 mod applied;
-pub mod example;
-pub mod legality;
 pub mod order;
-pub mod straight;
-#[cfg(test)]
-mod tests;

@@ -1,2 +1,2 @@
 pub mod LowBits
-pub mod Fit
+pub mod ForCallers

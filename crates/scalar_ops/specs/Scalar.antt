@@ -1,5 +1,6 @@
--- What scalar instructions compute. Source: DDI 0487, A64 base instructions; DDI 0403 for those that Armv7-M has too.
--- Numbers of a register are taken modulo 2 to its bits; a result of 32 bits has zeros above it.
+-- What scalar instructions compute. Source: DDI 0487, A64 base instructions; DDI 0403 for
+-- those that Armv7-M has too. Numbers of a register are taken modulo 2 to its bits; a result
+-- of 32 bits has zeros above it.
 use Rattle.std.specs.Prelude.{ℕ, ℤ, ◌+◌, ◌-◌, ◌*◌, ◌/◌, ◌%◌, ◌^◌, Bool, true, false, bit_and, bit_or, bit_xor, List, [], ◌∷◌, slice_index, if◌then◌else◌}
 use Rattle.sl_isa.specs.declared.meaning.Size.{Size}
 use Rattle.sl_isa.specs.declared.meaning.Size.TheVariants.{Bits32, Bits64}
@@ -16,6 +17,7 @@ use Rattle.sl_isa.specs.declared.meaning.Scalar.TheVariants as scalar
 use Rattle.bit_ops.specs.Bits.{number, extended}
 use Rattle.scalar_ops.specs.Flags.{one_if, flag_c, sum, sum_flags, complement, condition_holds}
 
+-- how many bits a size has
 abbrev pub bits_of : Size → ℕ
 bits_of Bits32 = 32
 bits_of Bits64 = 64
@@ -46,6 +48,7 @@ abbrev pub addend : Bool → ℕ → ℕ → ℕ
 addend false bits y = y
 addend true bits y = complement bits y
 
+-- the carry that is added: C where it is read, else 1 for a difference and 0 for a sum
 abbrev pub carry_of : Bool → Bool → List ℕ → ℕ
 carry_of minus true ins = one_if (flag_c (slice_index ins 2))
 carry_of minus false ins = one_if minus
@@ -62,6 +65,7 @@ bitwise logic.Orr bits x y = bit_or x y
 bitwise logic.Eor bits x y = bit_xor x y
 bitwise logic.Bic bits x y = bit_and x (complement bits y)
 
+-- a product of numbers of so many bits: alone, added to a number or taken from it
 abbrev pub product_of : Product → ℕ → ℕ → ℕ → ℕ → ℕ
 product_of product.Alone bits n m a = n * m % 2 ^ bits
 product_of product.Added bits n m a = (a + n * m) % 2 ^ bits
@@ -83,7 +87,8 @@ with_part bits d part place = (d - d / 2 ^ place % 2 ^ 16 * 2 ^ place + part * 2
 
 -- the second operand behind the first one, from the first number on
 abbrev pub extracted : ℕ → List ℤ → List ℕ → ℕ
-extracted bits imms ins = (operand bits ins 1 + 2 ^ bits * operand bits ins 0) / 2 ^ number imms 0 % 2 ^ bits
+extracted bits imms ins =
+    (operand bits ins 1 + 2 ^ bits * operand bits ins 0) / 2 ^ number imms 0 % 2 ^ bits
 
 -- as many bits as the second number says, from the first number on
 abbrev pub field : ℕ → List ℤ → List ℕ → ℕ
@@ -91,22 +96,30 @@ field bits imms ins = operand bits ins 0 / 2 ^ number imms 0 % 2 ^ number imms 1
 
 -- the first operand where the condition with the first number holds, else the second one
 abbrev pub selected : ℕ → List ℤ → List ℕ → ℕ
-selected bits imms ins = if condition_holds (number imms 0) (slice_index ins 2) then operand bits ins 0 else operand bits ins 1
+selected bits imms ins =
+    if condition_holds (number imms 0) (slice_index ins 2) then operand bits ins 0
+    else operand bits ins 1
 
 -- the values of the outputs, from the numbers of the instruction and the values of its operands
 unfoldable pub scalar_values : Scalar → ℕ → List ℤ → List ℕ → List ℕ
 scalar_values (scalar.Sum minus second carries flags) bits imms ins =
-    with_flags flags bits (operand bits ins 0) (addend minus bits (second_of second bits imms ins)) (carry_of minus carries ins)
-scalar_values (scalar.Logic op second) bits imms ins = bitwise op bits (operand bits ins 0) (second_of second bits imms ins) ∷ []
+    with_flags flags bits (operand bits ins 0) (addend minus bits (second_of second bits imms ins))
+    (carry_of minus carries ins)
+scalar_values (scalar.Logic op second) bits imms ins =
+    bitwise op bits (operand bits ins 0) (second_of second bits imms ins) ∷ []
 scalar_values scalar.Copy bits imms ins = operand bits ins 0 ∷ []
 scalar_values scalar.Wide bits imms ins = wide_number bits imms ∷ []
-scalar_values scalar.Part bits imms ins = with_part bits (operand bits ins 0) (number imms 0) (number imms 1) ∷ []
+scalar_values scalar.Part bits imms ins =
+    with_part bits (operand bits ins 0) (number imms 0) (number imms 1) ∷ []
 scalar_values (scalar.Multiply product) bits imms ins =
     product_of product bits (operand bits ins 0) (operand bits ins 1) (operand bits ins 2) ∷ []
-scalar_values (scalar.MultiplyHigh signed) bits imms ins = high_product signed (operand 64 ins 0) (operand 64 ins 1) ∷ []
-scalar_values (scalar.MultiplyLong signed) bits imms ins = long_product signed (operand 32 ins 0) (operand 32 ins 1) ∷ []
+scalar_values (scalar.MultiplyHigh signed) bits imms ins =
+    high_product signed (operand 64 ins 0) (operand 64 ins 1) ∷ []
+scalar_values (scalar.MultiplyLong signed) bits imms ins =
+    long_product signed (operand 32 ins 0) (operand 32 ins 1) ∷ []
 scalar_values scalar.Extract bits imms ins = extracted bits imms ins ∷ []
-scalar_values (scalar.Shift by) bits imms ins = shifted by bits (operand bits ins 0) (number imms 0) ∷ []
+scalar_values (scalar.Shift by) bits imms ins =
+    shifted by bits (operand bits ins 0) (number imms 0) ∷ []
 scalar_values scalar.Field bits imms ins = field bits imms ins ∷ []
 scalar_values scalar.Select bits imms ins = selected bits imms ins ∷ []
 

@@ -60,7 +60,8 @@ fn overflows(bits: u32, x: u128, y: u128, total: u128) -> bool
     !same(negative, is_negative(bits, total))
 }
 
-/// The flags of a sum of two numbers of so many bits and a carry: N, Z, C and V, with N the highest of four bits.
+/// The flags of a sum of two numbers of so many bits and a carry: N, Z, C and V,
+/// with N the highest of four bits.
 #[tactic(auto, unfolding(crate::specs::Flags::sum_flags))]
 pub(crate) fn sum_flags(bits: u32, x: u128, y: u128, carry: u128) -> u128
     requires some { 1 ≤ bits }
@@ -95,7 +96,9 @@ fn is_at_least(flags: u128) -> bool
 
 // Whether N and V are the same and Z is not set: greater, signed.
 fn is_greater(flags: u128) -> bool
-    ensures { result ≡ if spec.same (spec.flag_n flags) (spec.flag_v flags) then not (spec.flag_z flags) else false }
+    ensures { result ≡ if spec.same (spec.flag_n flags) (spec.flag_v flags)
+        then not (spec.flag_z flags)
+        else false }
 {
     if is_at_least(flags) {
         !flag_z(flags)
@@ -119,7 +122,8 @@ fn even_condition(kind: u128, flags: u128) -> bool
     }
 }
 
-/// Whether the condition with a number holds: eq, ne, cs, cc, mi, pl, vs, vc, hi, ls, ge, lt, gt and le, from 0 on.
+/// Whether the condition with a number holds: eq, ne, cs, cc, mi, pl, vs, vc, hi,
+/// ls, ge, lt, gt and le, from 0 on.
 #[tactic(auto, unfolding(crate::specs::Flags::condition_holds))]
 pub(crate) fn condition_holds(condition: u128, flags: u128) -> bool
     ensures { result ≡ spec.condition_holds condition flags }

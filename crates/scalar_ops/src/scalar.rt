@@ -71,11 +71,12 @@ fn selected(bits: u32, imms: &[i64], ins: &[u128]) -> u128
     operand(bits, ins, 1)
 }
 
-/// What a scalar instruction gives: its result and, behind it, the flags where it gives them. Places that it doesn't
-/// fill are 0.
+/// What a scalar instruction gives: its result and, behind it, the flags where it gives them.
+/// Places that it doesn't fill are 0.
 #[tactic(auto, unfolding(crate::specs::Scalar::scalar_values, sl_isa::specs::Arch::padded_values))]
 pub fn scalar_values(op: Scalar, size: Size, imms: &[i64], ins: &[u128]) -> [u128; 3]
-    ensures { result ≡ padded_values 3 (spec.scalar_values op (spec.bits_of size) imms.now ins.now) }
+    ensures { result
+        ≡ padded_values 3 (spec.scalar_values op (spec.bits_of size) imms.now ins.now) }
 {
     let bits = bits_of(size);
     let x = operand(bits, ins, 0);

@@ -1,2 +1,4 @@
+pub mod ForCallers
+pub mod Left
 pub mod Naming
 pub mod Taking

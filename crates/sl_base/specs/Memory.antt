@@ -14,7 +14,8 @@ abbrev pub file_named : List (List ℕ × List ℕ) → List ℕ → Option (Lis
 file_named [] name = None
 file_named (file ∷ files) name = if bytes_eq file.0 name then Some file.1 else file_named files name
 
--- files in memory: what they hold, which calls fail, how many calls there were, and what `Files` tells of them
+-- files in memory: what they hold, which calls fail, how many calls there were,
+-- and what `Files` tells of them
 pub record MemoryFiles : Type 0 where
   pub files : List (List ℕ × List ℕ)
   pub fails : List ℕ
@@ -25,36 +26,56 @@ pub record MemoryFiles : Type 0 where
   pub broken : Bool
   pub faults : ℕ
 
--- the bytes that the next choice of a name finds: none where the call is to fail or no file has the name
+-- the bytes that the next choice of a name finds: none where the call is
+-- to fail or no file has the name
 abbrev pub found : MemoryFiles → List ℕ → Option (List ℕ)
 found state name = if fails_at state.fails state.calls then None else file_named state.files name
 
 -- the files after a choice that found these bytes
 abbrev pub after_choice : MemoryFiles → List ℕ → List ℕ → MemoryFiles
-after_choice state name bytes = record state { calls = one_more state.calls; chosen = name; left = bytes; given = 0; broken = false }
+after_choice state name bytes =
+    record state {
+      calls = one_more state.calls;
+      chosen = name;
+      left = bytes;
+      given = 0;
+      broken = false;
+    }
 
 -- the files after a choice that failed
 abbrev pub after_failed_choice : MemoryFiles → List ℕ → MemoryFiles
 after_failed_choice state name =
-    record state { calls = one_more state.calls; chosen = name; left = []; given = 0; broken = true; faults = one_more state.faults }
+    record state {
+      calls = one_more state.calls;
+      chosen = name;
+      left = [];
+      given = 0;
+      broken = true;
+      faults = one_more state.faults;
+    }
 
 -- how many bytes the next read gives into a buffer of that length
 abbrev pub read_count : MemoryFiles → ℕ → ℕ
 read_count state room = min room (length state.left)
 
--- whether the next read fails: its call is to fail, or the count of bytes given would pass its last value
+-- whether the next read fails: its call is to fail, or the count of bytes
+-- given would pass its last value
 abbrev pub read_fails : MemoryFiles → ℕ → Bool
-read_fails state room = fails_at state.fails state.calls || nat_lt (2 ^ 64 - 1) (state.given + read_count state room)
+read_fails state room =
+    fails_at state.fails state.calls || nat_lt (2 ^ 64 - 1) (state.given + read_count state room)
 
 -- the files after a read that gave n bytes
 abbrev pub after_read : MemoryFiles → ℕ → MemoryFiles
-after_read state n = record state { calls = one_more state.calls; left = drop n state.left; given = state.given + n }
+after_read state n =
+    record state { calls = one_more state.calls; left = drop n state.left; given = state.given + n }
 
 -- the files after a read that failed
 abbrev pub after_failed_read : MemoryFiles → MemoryFiles
-after_failed_read state = record state { calls = one_more state.calls; broken = true; faults = one_more state.faults }
+after_failed_read state =
+    record state { calls = one_more state.calls; broken = true; faults = one_more state.faults }
 
--- a sink in memory: what it took, which calls fail, how much it takes at once and in all, and its counts
+-- a sink in memory: what it took, which calls fail, how much it takes at
+-- once and in all, and its counts
 pub record MemorySink : Type 0 where
   pub taken : List ℕ
   pub fails : List ℕ
@@ -65,17 +86,22 @@ pub record MemorySink : Type 0 where
 
 -- how many bytes of a piece of that length the next write takes
 abbrev pub write_count : MemorySink → ℕ → ℕ
-write_count state length_of_piece = min length_of_piece (min state.most (state.room - length state.taken))
+write_count state length_of_piece =
+    min length_of_piece (min state.most (state.room - length state.taken))
 
--- whether the next write fails: its call is to fail, or the piece has bytes and there is room for none
+-- whether the next write fails: its call is to fail, or the piece has
+-- bytes and there is room for none
 abbrev pub write_fails : MemorySink → ℕ → Bool
 write_fails state length_of_piece =
-    fails_at state.fails state.calls || (nat_lt 0 length_of_piece && nat_eq (write_count state length_of_piece) 0)
+    fails_at state.fails state.calls
+    || (nat_lt 0 length_of_piece && nat_eq (write_count state length_of_piece) 0)
 
 -- the sink after a write that took these bytes
 abbrev pub after_write : MemorySink → List ℕ → MemorySink
-after_write state bytes = record state { taken = state.taken ++ bytes; calls = one_more state.calls }
+after_write state bytes =
+    record state { taken = state.taken ++ bytes; calls = one_more state.calls }
 
 -- the sink after a write that failed
 abbrev pub after_failed_write : MemorySink → MemorySink
-after_failed_write state = record state { calls = one_more state.calls; faults = one_more state.faults }
+after_failed_write state =
+    record state { calls = one_more state.calls; faults = one_more state.faults }

@@ -50,8 +50,8 @@ pub trait Files {
     // How many calls failed, which stops at its last value.
     ghost faults: { Self → ℕ };
 
-    /// Chooses the file `name`, to be read from its start. A file that isn't there is `Failed`. After
-    /// `NoMemory` nothing has changed.
+    /// Chooses the file `name`, to be read from its start. A file that isn't there is `Failed`.
+    /// After `NoMemory` nothing has changed.
     fn choose(&mut self, name: &str) -> Result<(), ChooseErr>
         ensures same_files { holds self.new ≡ holds self.old }
         ensures never_falls { faults self.old ≤ faults self.new }
@@ -71,16 +71,18 @@ pub trait Files {
         ensures no_memory_broken { OnNoMemory result (broken self.new ≡ broken self.old) }
         ensures no_memory_faults { OnNoMemory result (faults self.new ≡ faults self.old) };
 
-    /// Moves the next bytes of the chosen file to the front of `buffer` and says how many: 0 only at the
-    /// file's end or for an empty buffer. A read that would pass the last value of the count of bytes
-    /// given is `Failed`.
+    /// Moves the next bytes of the chosen file to the front of `buffer` and says how many: 0 only
+    /// at the file's end or for an empty buffer. A read that would pass the last value of the
+    /// count of bytes given is `Failed`.
     fn read(&mut self, buffer: &mut [u8]) -> Result<usize, Failed>
         ensures same_files { holds self.new ≡ holds self.old }
         ensures same_chosen { chosen self.new ≡ chosen self.old }
         ensures never_falls { faults self.old ≤ faults self.new }
         ensures ok_bound { IfOk result (λ n. n ≤ length buffer.old) }
-        ensures ok_left { IfOk result (λ n. left self.old ≡ prepend_known (take n buffer.new) (left self.new)) }
-        ensures ok_end { IfOk result (λ n. n ≡ 0 → 0 < length buffer.old → IsAtEnd (left self.new)) }
+        ensures ok_left { IfOk result
+            (λ n. left self.old ≡ prepend_known (take n buffer.new) (left self.new)) }
+        ensures ok_end { IfOk result
+            (λ n. n ≡ 0 → 0 < length buffer.old → IsAtEnd (left self.new)) }
         ensures ok_given { IfOk result (λ n. given self.new ≡ given self.old + n) }
         ensures ok_count { OnOk result (given self.new < 2 ^ 64) }
         ensures ok_broken { OnOk result (broken self.new ≡ broken self.old) }

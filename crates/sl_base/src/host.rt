@@ -1,55 +1,77 @@
-//! The files and the streams of the system. What they hold isn't known to a proof: they tell the counts, the
-//! chosen name and whether it broke, and nothing of content.
-ghost use Rattle.std.specs.Prelude.{◌≡◌, ℕ, ◌+◌, ◌-◌, ◌^◌, ◌<◌, ◌≤◌, [], Bool, true, false, List, length, OnOk, OnErr, IfOk, Some, None, string_bytes};
+//! Files and sinks over std's readers and writers: all that these give is handed on, in order,
+//! and each of their faults is one.
+ghost use Rattle.std.specs.Prelude.{◌≡◌, ℕ, ◌+◌, ◌-◌, ◌^◌, ◌<◌, ◌≤◌, [], Bool, true, false, List, length, take, OnOk, OnErr, IfOk, Some, None, string_bytes};
 ghost use Rattle.std.specs.declared.option.Option.{Option};
-ghost use Rattle.sl_base.specs.Host.{HostState};
+ghost use Rattle.std.specs.Io.{ReadsAtMost};
+ghost use Rattle.std.specs.Io.KnownBytes.{Keeps, append_known};
+ghost use Rattle.sl_base.specs.Host.{HostState, StreamState, left_of, AreLeft, Reads};
 
 use crate::files::{ChooseErr, Failed, Files};
 use crate::sink::Sink;
 use std::alloc::Global;
-use std::fs;
-use std::io::{Input, Print, Read};
+use std::io::{Read, Write};
 use std::marker::Model;
-use std::rt::{Stderr, Stdout};
 
-/// The name that stands for standard input.
-const STANDARD_INPUT: &str = "-";
+/// What opens files by name.
+pub trait Open {
+    /// What reads a file that is open.
+    type Reader: Read + Drop;
 
-/// What is read now.
-#[derive(Drop)]
-enum Source<F: Drop, I: Drop> {
-    Nothing,
-    File(F),
-    Input(I),
+    // The bytes of the file of a name, where they are known.
+    ghost holds: { Self → List ℕ → Option (List ℕ) };
+
+    /// Opens the file `name`, to be read from its start. One that isn't there is `Failed`.
+    fn open(&self, name: &str) -> Result<Self::Reader, Failed>
+        ensures { IfOk result
+            (λ reader. Keeps (holds self.now name.now) (Self.Reader.remaining reader)) };
 }
 
-/// The files of the system, with `-` as standard input. Each choice opens its file anew.
+/// Files that `O` opens, anew at each choice. A read fails too where the count of bytes
+/// given could pass its last value.
 #[derive(Drop)]
-pub struct HostFiles<R: fs::Files + Input + Drop> {
-    rt: R,
+pub struct HostFiles<O: Open + Drop> {
+    opener: O,
     alloc: Global,
-    source: Source<R::File, R::Reader>,
+    reader: Option<O::Reader>,
     chosen: String,
     given: u64,
     broken: bool,
     faults: u64,
 }
 
-impl<R: fs::Files + Input + Drop> Model for HostFiles<R> {
-    ghost Value = { HostState };
+impl<O: Open + Drop> Model for HostFiles<O> {
+    ghost Value = { HostState O };
 
-    ghost view = { λ s. record { chosen = string_bytes s.chosen; given = s.given; broken = s.broken; faults = s.faults } };
+    ghost view = { λ s. record {
+      opener = s.opener;
+      left = left_of (O.holds s.opener (string_bytes s.chosen)) s.given s.reader;
+      chosen = string_bytes s.chosen;
+      given = s.given;
+      broken = s.broken;
+      faults = s.faults;
+    } };
+
+    ghost invariant = { λ s. AreLeft O.Reader.remaining
+        (O.holds s.opener (string_bytes s.chosen)) s.given s.reader };
 }
 
-impl<R: fs::Files + Input + Drop> HostFiles<R> {
-    /// The system's files, of which none is chosen yet.
-    pub fn new(rt: R, alloc: Global) -> HostFiles<R>
-        ensures { result ≡ record { chosen = []; given = 0; broken = false; faults = 0 } }
+impl<O: Open + Drop> HostFiles<O> {
+    /// The files that `opener` opens, of which none is chosen yet.
+    pub fn new(opener: O, alloc: Global) -> HostFiles<O>
+        ensures { result
+            ≡ record {
+              opener = opener;
+              left = Some [];
+              chosen = [];
+              given = 0;
+              broken = false;
+              faults = 0;
+            } }
     {
         HostFiles {
-            rt,
+            opener,
             alloc,
-            source: Source::Nothing,
+            reader: None,
             chosen: String::new(alloc),
             given: 0,
             broken: false,
@@ -58,39 +80,21 @@ impl<R: fs::Files + Input + Drop> HostFiles<R> {
     }
 }
 
-/// Opens the file of that name, or standard input.
-fn open<R: fs::Files + Input + Drop>(
-    rt: &R,
-    name: &str,
-) -> Result<Source<R::File, R::Reader>, Failed> {
-    if name == STANDARD_INPUT {
-        return Ok(Source::Input(rt.reader()));
-    }
-    match fs::open(rt, name) {
-        Ok(file) => Ok(Source::File(file)),
-        Err(_) => Err(Failed),
-    }
-}
-
 /// The next bytes of what is open, none where nothing is.
-fn read_some<F: Read + Drop, I: Read + Drop>(
-    source: &mut Source<F, I>,
-    buffer: &mut [u8],
-) -> Result<usize, Failed>
-    ensures { IfOk result (λ n. n ≤ length buffer.old) }
+fn read_some<R: Read>(reader: &mut Option<R>, buffer: &mut [u8]) -> Result<usize, Failed>
+    ensures bound { ReadsAtMost result buffer.new }
+    ensures reads { Reads R.remaining reader.old reader.new result buffer.new }
 {
-    let given = match source {
-        Source::Nothing => return Ok(0),
-        Source::File(file) => file.read(buffer),
-        Source::Input(input) => input.read(buffer),
-    };
-    given.map_err(|_| Failed)
+    match reader {
+        Some(reader) => reader.read(buffer).map_err(|_| Failed),
+        None => Ok(0),
+    }
 }
 
-impl<R: fs::Files + Input + Drop> Files for HostFiles<R> {
-    ghost holds = { λ _ _. None };
+impl<O: Open + Drop> Files for HostFiles<O> {
+    ghost holds = { λ s. O.holds s.opener };
 
-    ghost left = { λ _. None };
+    ghost left = { λ s. s.left };
 
     ghost given = { λ s. s.given };
 
@@ -106,22 +110,20 @@ impl<R: fs::Files + Input + Drop> Files for HostFiles<R> {
         };
         self.chosen = chosen;
         self.given = 0;
-        let Ok(source) = open(&self.rt, name) else {
-            self.source = Source::Nothing;
-            self.broken = true;
+        self.reader = self.opener.open(name).ok();
+        self.broken = self.reader.is_none();
+        if self.broken {
             self.faults = self.faults.saturating_add(1);
             return Err(ChooseErr::Failed);
-        };
-        self.source = source;
-        self.broken = false;
+        }
         Ok(())
     }
 
     fn read(&mut self, buffer: &mut [u8]) -> Result<usize, Failed> {
-        if let Ok(count) = read_some(&mut self.source, buffer)
-            && let Some(given) = self.given.checked_add(count as u64)
+        if buffer.len() as u64 <= u64::MAX - self.given
+            && let Ok(count) = read_some(&mut self.reader, buffer)
         {
-            self.given = given;
+            self.given += count as u64;
             return Ok(count);
         }
         self.broken = true;
@@ -130,47 +132,47 @@ impl<R: fs::Files + Input + Drop> Files for HostFiles<R> {
     }
 }
 
-/// A stream of the system, with a count of its faults. A write that takes nothing of a piece that isn't
-/// empty is a fault.
+/// A writer that keeps nothing back: what it took is written.
+pub trait Stream: Write {
+    // What it holds is always known, or never.
+    ghost known: { (v w : Self) → Self.contents v ≡ None → Self.contents w ≡ None };
+}
+
+/// A sink over a writer, with a count of its faults. A write that takes nothing of a
+/// piece that isn't empty is a fault.
 #[derive(Drop)]
-pub struct HostStream<P: Print + Drop> {
-    stream: P,
+pub struct HostStream<W: Stream + Drop> {
+    writer: W,
     faults: u64,
 }
 
-/// Standard output.
-pub type HostOut = HostStream<Stdout>;
+impl<W: Stream + Drop> Model for HostStream<W> {
+    ghost Value = { StreamState };
 
-/// Standard error.
-pub type HostErr = HostStream<Stderr>;
-
-impl<P: Print + Drop> Model for HostStream<P> {
-    ghost Value = { ℕ };
-
-    ghost view = { λ s. s.faults };
+    ghost view = { λ s. record { taken = W.contents s.writer; faults = s.faults } };
 }
 
-impl<P: Print + Drop> HostStream<P> {
-    /// A stream to which nothing was written yet.
-    pub fn new(stream: P) -> HostStream<P>
-        ensures { result ≡ 0 }
+impl<W: Stream + Drop> HostStream<W> {
+    /// A sink that has taken what `writer` holds.
+    pub fn new(writer: W) -> HostStream<W>
+        ensures { result ≡ record { taken = W.contents writer; faults = 0 } }
     {
-        HostStream { stream, faults: 0 }
+        HostStream { writer, faults: 0 }
     }
 }
 
-impl<P: Print + Drop> Sink for HostStream<P> {
-    ghost taken = { λ _. None };
+impl<W: Stream + Drop> Sink for HostStream<W> {
+    ghost taken = { λ s. s.taken };
 
-    ghost faults = { λ s. s };
+    ghost faults = { λ s. s.faults };
 
     fn write(&mut self, bytes: &[u8]) -> Result<usize, Failed> {
-        if let Ok(count) = self.stream.write_some(bytes)
-            && (count > 0 || bytes.is_empty())
-        {
-            return Ok(count);
+        match self.writer.write(bytes) {
+            Ok(count) if count > 0 || bytes.is_empty() => Ok(count),
+            _ => {
+                self.faults = self.faults.saturating_add(1);
+                Err(Failed)
+            }
         }
-        self.faults = self.faults.saturating_add(1);
-        Err(Failed)
     }
 }

@@ -10,9 +10,9 @@ ghost use Rattle.sl_base.specs.Memory.{MemoryFiles, file_named, found, after_cho
 use crate::files::{ChooseErr, Failed, Files};
 use std::marker::Model;
 
-/// Files that are kept in memory, of two with one name the first. It fails the calls whose numbers, from
-/// 0, stand in `fails`, and those that choose a name that isn't there. The number of a call and the
-/// counts stop at their last value.
+/// Files that are kept in memory, of two with one name the first. It fails the calls whose numbers,
+/// from 0, stand in `fails`, and those that choose a name that isn't there. The number of a call
+/// and the counts stop at their last value.
 #[derive(Drop)]
 pub struct MemFiles {
     files: Vec<(String, Vec<u8>)>,
@@ -46,7 +46,17 @@ impl Model for MemFiles {
 impl MemFiles {
     /// These files, of which none is chosen yet.
     pub fn new(files: Vec<(String, Vec<u8>)>, fails: Vec<u64>) -> MemFiles
-        ensures { result ≡ record { files = map plain_file files.items; fails = fails.items; calls = 0; chosen = []; left = []; given = 0; broken = false; faults = 0 } }
+        ensures { result
+            ≡ record {
+              files = map plain_file files.items;
+              fails = fails.items;
+              calls = 0;
+              chosen = [];
+              left = [];
+              given = 0;
+              broken = false;
+              faults = 0;
+            } }
     {
         let chosen = String::new(*files.allocator());
         let place = files.len();
@@ -67,7 +77,8 @@ impl MemFiles {
 /// The place of the first file of that name.
 fn place_of(files: &[(String, Vec<u8>)], name: &str) -> Option<usize>
     ensures { MatchOption result (file_named (map plain_file files.now) name.now ≡ None)
-        (λ place. file_named (map plain_file files.now) name.now ≡ Some (bytes_at files.now place)) }
+        (λ place. file_named (map plain_file files.now) name.now
+        ≡ Some (bytes_at files.now place)) }
 {
     for (place, file) in files.iter().enumerate() {
         if file.0.as_str() == name {
@@ -131,7 +142,8 @@ impl Files for MemFiles {
         ensures ok_count { IfOk result (λ n. n ≡ read_count self.old (length buffer.old)) }
         ensures ok_fails { OnOk result (read_fails self.old (length buffer.old) ≡ false) }
         ensures ok_after { IfOk result (λ n. self.new ≡ after_read self.old n) }
-        ensures ok_buffer { IfOk result (λ n. buffer.new ≡ take n self.old.left ++ drop n buffer.old) }
+        ensures ok_buffer { IfOk result
+            (λ n. buffer.new ≡ take n self.old.left ++ drop n buffer.old) }
         ensures err_fails { OnErr result (read_fails self.old (length buffer.old) ≡ true) }
         ensures err_after { OnErr result (self.new ≡ after_failed_read self.old) }
         ensures err_buffer { OnErr result (buffer.new ≡ buffer.old) }

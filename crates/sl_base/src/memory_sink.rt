@@ -10,8 +10,8 @@ use crate::sink::Sink;
 use std::alloc::Global;
 use std::marker::Model;
 
-/// A sink that keeps what it takes in room made beforehand. It fails the calls whose numbers, from 0,
-/// stand in `fails`, and those where the room has ended.
+/// A sink that keeps what it takes in room made beforehand. It fails the calls whose numbers, from
+/// 0, stand in `fails`, and those where the room has ended.
 #[derive(Drop)]
 pub struct MemSink {
     taken: Vec<u8>,
@@ -34,7 +34,8 @@ impl Model for MemSink {
       faults = s.faults;
     } };
 
-    ghost invariant = { λ s. (0 < s.most) × (vec_len s.taken ≤ s.room) × (s.room ≤ vec_capacity s.taken) };
+    ghost invariant = { λ s. (0 < s.most) × (vec_len s.taken ≤ s.room)
+        × (s.room ≤ vec_capacity s.taken) };
 }
 
 impl MemSink {
@@ -46,7 +47,16 @@ impl MemSink {
         room: usize,
     ) -> Result<MemSink, NoMemory>
         requires { 0 < most }
-        ensures { IfOk result (λ sink. sink ≡ record { taken = []; fails = fails.items; most = most; room = room; calls = 0; faults = 0 }) }
+        ensures { IfOk result
+            (λ sink. sink
+            ≡ record {
+              taken = [];
+              fails = fails.items;
+              most = most;
+              room = room;
+              calls = 0;
+              faults = 0;
+            }) }
     {
         let Ok(taken) = Vec::with_capacity(alloc, room) else {
             return Err(NoMemory);

@@ -24,8 +24,8 @@ pub enum ReadErr {
     NoMemory,
 }
 
-/// The bytes of the file `name`, which are at most `limit`. It reads on until a read gives nothing. No fault of the
-/// files is passed over.
+/// The bytes of the file `name`, which are at most `limit`. It reads on until a read gives nothing.
+/// No fault of the files is passed over.
 pub fn read_all<F: Files>(
     alloc: Global,
     files: &mut F,
@@ -35,7 +35,8 @@ pub fn read_all<F: Files>(
     ensures same_files { F.holds files.new ≡ F.holds files.old }
     ensures never_falls { F.faults files.old ≤ F.faults files.new }
     ensures ok_bound { IfOk result (λ v. vec_len v ≤ limit) }
-    ensures ok_told { (bytes : List ℕ) → F.holds files.old name.now ≡ Some bytes → IfOk result (λ v. v.items ≡ bytes) }
+    ensures ok_told { (bytes : List ℕ) → F.holds files.old name.now ≡ Some bytes
+        → IfOk result (λ v. v.items ≡ bytes) }
     ensures ok_chosen { OnOk result (F.chosen files.new ≡ name.now) }
     ensures ok_broken { OnOk result (F.broken files.new ≡ false) }
     ensures ok_given { IfOk result (λ v. F.given files.new ≡ vec_len v) }
@@ -47,8 +48,10 @@ pub fn read_all<F: Files>(
     ensures long_limit { IfTooLong result (λ n. n ≡ limit) }
     ensures long_given { IfTooLong result (λ _. limit < F.given files.new) }
     ensures long_chosen { IfTooLong result (λ _. F.chosen files.new ≡ name.now) }
-    ensures long_told { (bytes : List ℕ) → F.holds files.old name.now ≡ Some bytes → IfTooLong result (λ _. limit < length bytes) }
-    ensures long_not_ok { (bytes : List ℕ) → F.holds files.old name.now ≡ Some bytes → limit < length bytes → IsErr result }
+    ensures long_told { (bytes : List ℕ) → F.holds files.old name.now ≡ Some bytes
+        → IfTooLong result (λ _. limit < length bytes) }
+    ensures long_not_ok { (bytes : List ℕ) → F.holds files.old name.now ≡ Some bytes
+        → limit < length bytes → IsErr result }
 {
     match files.choose(name) {
         Ok(()) => read_rest(alloc, files, limit),
@@ -57,14 +60,16 @@ pub fn read_all<F: Files>(
     }
 }
 
-/// The bytes that the chosen file still gives, where none was given yet and they are at most `limit`.
+/// The bytes that the chosen file still gives, where none was given
+/// yet and they are at most `limit`.
 fn read_rest<F: Files>(alloc: Global, files: &mut F, limit: u64) -> Result<Vec<u8>, ReadErr>
     requires { F.given files.old ≡ 0 }
     ensures same_files { F.holds files.new ≡ F.holds files.old }
     ensures same_chosen { F.chosen files.new ≡ F.chosen files.old }
     ensures never_falls { F.faults files.old ≤ F.faults files.new }
     ensures ok_bound { IfOk result (λ v. vec_len v ≤ limit) }
-    ensures ok_told { (bytes : List ℕ) → F.left files.old ≡ Some bytes → IfOk result (λ v. v.items ≡ bytes) }
+    ensures ok_told { (bytes : List ℕ) → F.left files.old ≡ Some bytes
+        → IfOk result (λ v. v.items ≡ bytes) }
     ensures ok_broken { OnOk result (F.broken files.new ≡ F.broken files.old) }
     ensures ok_given { IfOk result (λ v. F.given files.new ≡ vec_len v) }
     ensures ok_faults { OnOk result (F.faults files.new ≡ F.faults files.old) }
@@ -73,8 +78,10 @@ fn read_rest<F: Files>(alloc: Global, files: &mut F, limit: u64) -> Result<Vec<u
     ensures fault_broken { OnReadFault result (F.broken files.new ≡ true) }
     ensures long_limit { IfTooLong result (λ n. n ≡ limit) }
     ensures long_given { IfTooLong result (λ _. limit < F.given files.new) }
-    ensures long_told { (bytes : List ℕ) → F.left files.old ≡ Some bytes → IfTooLong result (λ _. limit < length bytes) }
-    ensures long_not_ok { (bytes : List ℕ) → F.left files.old ≡ Some bytes → limit < length bytes → IsErr result }
+    ensures long_told { (bytes : List ℕ) → F.left files.old ≡ Some bytes
+        → IfTooLong result (λ _. limit < length bytes) }
+    ensures long_not_ok { (bytes : List ℕ) → F.left files.old ≡ Some bytes → limit < length bytes
+        → IsErr result }
 {
     let mut text = Vec::new(alloc);
     let mut buffer = [0; PIECE];

@@ -14,14 +14,21 @@ pub trait Sink {
     // How many calls failed, which stops at its last value.
     ghost faults: { Self → ℕ };
 
-    /// Takes a front of `bytes` and says how many: at least 1, unless `bytes` is empty. Where it fails it
-    /// has taken nothing.
+    /// Takes a front of `bytes` and says how many: at least 1, unless `bytes` is empty. Where
+    /// it fails it has taken nothing.
     fn write(&mut self, bytes: &[u8]) -> Result<usize, Failed>
         ensures never_falls { faults self.old ≤ faults self.new }
         ensures ok_bound { IfOk result (λ n. n ≤ length bytes.now) }
         ensures ok_some { IfOk result (λ n. 0 < length bytes.now → 0 < n) }
-        ensures ok_taken { IfOk result (λ n. taken self.new ≡ append_known (taken self.old) (take n bytes.now)) }
+        ensures ok_taken { IfOk result
+            (λ n. taken self.new ≡ append_known (taken self.old) (take n bytes.now)) }
         ensures ok_faults { OnOk result (faults self.new ≡ faults self.old) }
         ensures err_risen { OnErr result (HasRisen (faults self.old) (faults self.new)) }
         ensures err_taken { OnErr result (taken self.new ≡ taken self.old) };
 }
+
+/// The sink of a program's text.
+pub trait Output: Sink {}
+
+/// The sink of a program's messages.
+pub trait Messages: Sink {}

@@ -1,10 +1,15 @@
-ghost use Rattle.std.specs.Prelude.{◌≡◌, ◌<◌};
+ghost use Rattle.std.specs.Prelude.{◌≡◌, ◌<◌, if◌then◌else◌, true, None, Some, IfOk};
+ghost use Rattle.std.specs.Str.{bytes_eq};
+ghost use Rattle.sl_base.specs.Known.{told_is_known};
 
 use crate::{
-    Gate, HostErr, HostFiles, HostOut, MemFiles, MemSink, NoGate, ReadErr, Steps, WriteErr, append,
-    append_labelled, read_all, tick, write_all,
+    Disk, Failed, Gate, HostErr, HostFiles, HostOut, HostStream, MemFiles, MemSink, NoGate, Open,
+    ReadErr, Steps, Stream, WithInput, WriteErr, append, append_labelled, read_all, tick,
+    write_all,
 };
 use std::alloc::{AllocError, Global};
+use std::io;
+use std::io::{ErrorKind, Read};
 use std::marker::Brand;
 use std::sync::ledger::{Blank, Ledger};
 use std::test::Fail;
@@ -97,7 +102,11 @@ fn texts_are_added_behind_one_another(rt: HostRuntime) -> Result<(), Fail> {
 #[test]
 fn the_systems_files_and_streams(rt: HostRuntime) -> Result<(), Fail> {
     let alloc = rt.alloc();
-    let mut files = HostFiles::new(&rt, alloc);
+    let system = WithInput {
+        files: Disk { rt: &rt },
+        input: &rt,
+    };
+    let mut files = HostFiles::new(system, alloc);
     assert_eq!(rt;
         read_all(alloc, &mut files, "/dev/null", 0).as_deref(),
         Ok([].as_slice())
@@ -112,6 +121,113 @@ fn the_systems_files_and_streams(rt: HostRuntime) -> Result<(), Fail> {
     );
     assert_eq!(rt; write_all(&mut HostOut::new(rt.stdout()), b"out\n"), Ok(()));
     assert_eq!(rt; write_all(&mut HostErr::new(rt.stderr()), b"err\n"), Ok(()));
+    Ok(())
+}
+
+/// Reads at most 3 bytes at once, and fails the read of this number, from 0.
+#[derive(Drop)]
+struct Slow<'a> {
+    rest: &'a [u8],
+    reads: u64,
+    fails: u64,
+}
+
+impl Read for Slow<'_> {
+    ghost remaining = { λ s. Some s.rest.now };
+
+    fn read(&mut self, buf: &mut [u8]) -> io::Result<usize> {
+        let is_to_fail = self.reads == self.fails;
+        self.reads = self.reads.saturating_add(1);
+        if is_to_fail {
+            return Err(io::Error::from(ErrorKind::Other));
+        }
+        let most = buf.len().min(3);
+        self.rest.read(&mut buf[..most])
+    }
+}
+
+/// One file in memory.
+#[derive(Drop)]
+struct Shelf<'a> {
+    name: &'a str,
+    bytes: &'a [u8],
+    fails: u64,
+}
+
+impl<'a> Open for Shelf<'a> {
+    type Reader = Slow<'a>;
+
+    ghost holds = { λ s name. if bytes_eq s.name.now name then Some s.bytes.now else None };
+
+    fn open(&self, name: &str) -> Result<Slow<'a>, Failed> {
+        if self.name != name {
+            return Err(Failed);
+        }
+        Ok(Slow {
+            rest: self.bytes,
+            reads: 0,
+            fails: self.fails,
+        })
+    }
+}
+
+/// The bytes of the file `name` of a shelf.
+fn read_shelf(alloc: Global, shelf: Shelf<'_>, name: &str) -> Result<Vec<u8>, ReadErr>
+    ensures { bytes_eq shelf.entry.name.now name.now ≡ true → IfOk result (λ v. v.items ≡ shelf.entry.bytes.now) }
+{
+    read_all(alloc, &mut HostFiles::new(shelf, alloc), name, u64::MAX)
+}
+
+// Seven bytes take four reads, the last of which gives none. A file that isn't there is a fault, as is each read.
+#[test]
+fn a_reader_gives_all_or_its_fault(rt: HostRuntime) -> Result<(), Fail> {
+    let alloc = rt.alloc();
+    for fails in 0..6 {
+        let shelf = Shelf {
+            name: "seven",
+            bytes: b"0123456",
+            fails,
+        };
+        let expected = if fails < 4 {
+            Err(ReadErr::ReadFault)
+        } else {
+            Ok(7)
+        };
+        assert_eq!(rt;
+            read_shelf(alloc, shelf, "seven").map(|bytes| bytes.len()),
+            expected
+        );
+    }
+    let shelf = Shelf {
+        name: "seven",
+        bytes: b"0123456",
+        fails: 9,
+    };
+    assert_eq!(rt;
+        read_shelf(alloc, shelf, "eight").err(),
+        Some(ReadErr::ReadFault)
+    );
+    Ok(())
+}
+
+impl Stream for &mut Vec<u8> {
+    ghost known = { λ v w. told_is_known v.now.items (Some w.now.items) };
+}
+
+impl Stream for &mut [u8] {
+    ghost known = { λ _ _ e. e };
+}
+
+// A slice takes as much as there is room for, and then nothing.
+#[test]
+fn a_writer_takes_all_or_its_fault(rt: HostRuntime) -> Result<(), Fail> {
+    let mut taken = b"a".to_vec(rt.alloc())?;
+    assert_eq!(rt; write_all(&mut HostStream::new(&mut taken), b"bc"), Ok(()));
+    assert_eq!(rt; taken.as_slice(), b"abc".as_slice());
+    let mut room = [0; 5];
+    let written = write_all(&mut HostStream::new(&mut room[..]), b"0123456");
+    assert_eq!(rt; written, Err(WriteErr { sent: 5 }));
+    assert_eq!(rt; room.as_slice(), b"01234".as_slice());
     Ok(())
 }
 

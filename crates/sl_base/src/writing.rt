@@ -19,7 +19,8 @@ pub fn write_all<S: Sink>(sink: &mut S, bytes: &[u8]) -> Result<(), WriteErr>
     ensures ok_faults { OnOk result (S.faults sink.new ≡ S.faults sink.old) }
     ensures err_risen { OnErr result (HasRisen (S.faults sink.old) (S.faults sink.new)) }
     ensures err_sent { IfErr result (λ e. e.sent < length bytes.now) }
-    ensures err_taken { IfErr result (λ e. S.taken sink.new ≡ append_known (S.taken sink.old) (take e.sent bytes.now)) }
+    ensures err_taken { IfErr result
+        (λ e. S.taken sink.new ≡ append_known (S.taken sink.old) (take e.sent bytes.now)) }
 {
     let mut sent = 0;
     while sent < bytes.len() {

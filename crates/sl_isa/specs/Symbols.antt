@@ -8,18 +8,23 @@ use Rattle.sl_model.specs.Register.{bank_number}
 abbrev pub Pair : Type 0
 Pair = Bank × List ℕ
 
+-- Is a pair of this bank and this name?
 abbrev pub is_pair : Bank → List ℕ → Pair → Bool
-is_pair bank name pair = if bank_number pair.0 == bank_number bank then bytes_eq pair.1 name else false
+is_pair bank name pair =
+    if bank_number pair.0 == bank_number bank then bytes_eq pair.1 name else false
 
--- the place of a pair, counted from a first number on, and the number behind the last where it is none of them
+-- the place of a pair, counted from a first number on, and the number behind
+-- the last where it is none of them
 unfoldable pub place_from : ℕ → Bank → List ℕ → List Pair → ℕ
 place_from first bank name [] = first
-place_from first bank name (pair ∷ pairs) = if is_pair bank name pair then first else place_from (first + 1) bank name pairs
+place_from first bank name (pair ∷ pairs) =
+    if is_pair bank name pair then first else place_from (first + 1) bank name pairs
 
 -- Is a pair among others?
 unfoldable pub has_pair : Bank → List ℕ → List Pair → Bool
 has_pair bank name [] = false
-has_pair bank name (pair ∷ pairs) = if is_pair bank name pair then true else has_pair bank name pairs
+has_pair bank name (pair ∷ pairs) =
+    if is_pair bank name pair then true else has_pair bank name pairs
 
 -- the number of a pair
 abbrev pub number_of : Bank → List ℕ → List Pair → ℕ
@@ -29,5 +34,6 @@ number_of bank name pairs = place_from 0 bank name pairs
 unfoldable pub with_pair : Bank → List ℕ → List Pair → List Pair
 with_pair bank name pairs = if has_pair bank name pairs then pairs else pairs ++ (bank, name) ∷ []
 
+-- the name of a pair
 abbrev pub name_of : Pair → List ℕ
 name_of pair = pair.1

@@ -57,8 +57,8 @@ pub enum Product {
 /// What a scalar instruction computes.
 #[derive(Clone, Copy, Debug, PartialEq, Eq)]
 pub enum Scalar {
-    /// A sum, or a difference where `minus` is set; with the carry flag where `carries` is set, and giving the flags
-    /// where `flags` is set.
+    /// A sum, or a difference where `minus` is set; with the carry flag where `carries` is set, and
+    /// giving the flags where `flags` is set.
     Sum {
         minus: bool,
         second: Second,
@@ -86,7 +86,8 @@ pub enum Scalar {
     MultiplyLong {
         signed: bool,
     },
-    /// The second operand behind the first one, shifted right by the first number: the low bits of that.
+    /// The second operand behind the first one, shifted right by the
+    /// first number: the low bits of that.
     Extract,
     /// The operand, shifted by the first number.
     Shift(Shift),
@@ -194,8 +195,8 @@ pub enum Vector {
     Copy {
         lanes: Arrangement,
     },
-    /// Full products of lanes of half as many bits, from the low or the high half of the operands; added to the
-    /// destination where `adds` is set. The lanes are those of the result.
+    /// Full products of lanes of half as many bits, from the low or the high half of the operands;
+    /// added to the destination where `adds` is set. The lanes are those of the result.
     Long {
         signed: bool,
         adds: bool,
@@ -228,11 +229,13 @@ pub enum Vector {
     DupGeneral {
         lanes: Arrangement,
     },
-    /// The destination with the low bits of a general register in the lane that the first number names.
+    /// The destination with the low bits of a general register in the
+    /// lane that the first number names.
     InsertGeneral {
         lane: Lane,
     },
-    /// The destination with the operand's lane that the second number names in the lane that the first one names.
+    /// The destination with the operand's lane that the second number names in the
+    /// lane that the first one names.
     InsertLane {
         lane: Lane,
     },

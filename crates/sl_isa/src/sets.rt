@@ -4,7 +4,8 @@ ghost use Rattle.sl_model.specs.RegSets.{bit_of, bank_size, with_reg, set_of, se
 
 use sl_model::register::{Bank, Reg, RegSet};
 
-/// The set of those registers that are of the machine: not symbolic, and with a number that their bank has.
+/// The set of those registers that are of the machine: not symbolic, and
+/// with a number that their bank has.
 #[tactic(auto, unfolding(sl_model::specs::RegSets::set_of))]
 pub fn set_of(regs: &[Reg]) -> RegSet
     ensures { result ≡ set_of regs.now }

@@ -34,9 +34,14 @@ fn is_pair(bank: Bank, name: &str, symbol: &Symbol) -> bool
 #[tactic(auto, unfolding(crate::specs::Symbols::place_from, crate::specs::Symbols::has_pair))]
 fn place_from(first: usize, bank: Bank, name: &str, symbols: &[Symbol]) -> Option<usize>
     requires { first + length symbols.now < 131072 }
-    ensures found { MatchOption result (spec.has_pair bank name.now (map pair_of symbols.now) ≡ false)
-        (λ place. (spec.has_pair bank name.now (map pair_of symbols.now) ≡ true) × (place ≡ spec.place_from first bank name.now (map pair_of symbols.now)) × (place < first + length symbols.now)) }
-    ensures behind { MatchOption result (spec.place_from first bank name.now (map pair_of symbols.now) ≡ first + length symbols.now) (λ place. ⊤) }
+    ensures found { MatchOption result
+        (spec.has_pair bank name.now (map pair_of symbols.now) ≡ false)
+        (λ place. (spec.has_pair bank name.now (map pair_of symbols.now) ≡ true)
+        × (place ≡ spec.place_from first bank name.now (map pair_of symbols.now))
+        × (place < first + length symbols.now)) }
+    ensures behind { MatchOption result
+        (spec.place_from first bank name.now (map pair_of symbols.now) ≡ first + length symbols.now)
+        (λ place. ⊤) }
 {
     let Some((symbol, symbols)) = symbols.split_first() else {
         return None;
@@ -57,7 +62,8 @@ impl Symbols {
         }
     }
 
-    /// The number of a pair of bank and name: the same one each time. After `NoMemory` nothing has changed.
+    /// The number of a pair of bank and name: the same one each time. After
+    /// `NoMemory` nothing has changed.
     #[tactic(auto, unfolding(crate::specs::Symbols::with_pair))]
     pub fn number(&mut self, alloc: Global, bank: Bank, name: &str) -> Result<u16, NoMemory>
         requires { length (pairs self.old) < 65536 }
@@ -81,29 +87,11 @@ impl Symbols {
 
     /// The name with a number.
     pub fn name(&self, number: u16) -> Option<&str>
-        ensures { MatchOption result (slice_get (pairs self.now) number ≡ None) (λ name. MatchOption (slice_get (pairs self.now) number) ⊥ (λ pair. pair.1 ≡ name.now)) }
+        ensures { MatchOption result (slice_get (pairs self.now) number ≡ None)
+            (λ name. MatchOption (slice_get (pairs self.now) number) ⊥
+            (λ pair. pair.1 ≡ name.now)) }
     {
         let symbol = self.list.get(usize::from(number))?;
         Some(symbol.name.as_str())
-    }
-}
-
-#[cfg(test)]
-mod tests {
-    use super::*;
-
-    #[test]
-    fn each_pair_has_its_number(rt: HostRuntime) {
-        let mut symbols = Symbols::new(rt.alloc());
-        let first = symbols.number(rt.alloc(), Bank::General, "a");
-        let second = symbols.number(rt.alloc(), Bank::Vector, "a");
-        let third = symbols.number(rt.alloc(), Bank::General, "A");
-        let again = symbols.number(rt.alloc(), Bank::Vector, "a");
-        assert_eq!(rt; first, Ok(0));
-        assert_eq!(rt; second, Ok(1));
-        assert_eq!(rt; third, Ok(2));
-        assert_eq!(rt; again, Ok(1));
-        assert_eq!(rt; symbols.name(2), Some("A"));
-        assert_eq!(rt; symbols.name(3), None);
     }
 }

@@ -1,8 +1,8 @@
--- An instruction set, as far as theorems speak of one. Source: DDI 0487 and DDI 0403, whose pseudocode gives of each
--- instruction its operands, its address, what it computes and what it stores.
+-- An instruction set, as far as theorems speak of one. Source: DDI 0487 and DDI
+-- 0403, whose pseudocode gives of each instruction its operands, its address, what
+-- it computes and what it stores.
 use Rattle.std.specs.Prelude.{ℕ, ℤ, Bool, pos, ◌+ℤ◌, List, unsigned_abs}
 use Rattle.std.specs.Int.{int_rem_euclid}
-use Rattle.sl_model.specs.declared.register.Bank.{Bank}
 use Rattle.sl_model.specs.declared.instruction.ArchName.{ArchName}
 use Rattle.sl_model.specs.declared.instruction.FormInfo.{FormInfo}
 use Rattle.sl_model.specs.declared.instruction.Instr.{Instr}
@@ -13,18 +13,17 @@ pub record Op : Type 0 where
   pub wide : Bool
   pub imms : List ℤ
 
+-- that of an instruction
 abbrev pub op_of : Instr → Op
 op_of i = record { form = i.form; wide = i.wide; imms = i.imms }
 
+-- An instruction set: its forms, which of their instructions there are, and what each of them
+-- does.
 pub record Isa : Type 0 where
   -- the architecture that it is of
   pub name : ArchName
   -- how many forms there are, numbered from 0
   pub forms : ℕ
-  -- how many addresses there are, and how many turns a counter of 0 stands for
-  pub space : ℕ
-  -- how many values a register of a bank takes
-  pub limit : Bank → ℕ
   -- Is there an instruction of this form with these numbers?
   pub valid : Op → Bool
   -- what the table says of a form

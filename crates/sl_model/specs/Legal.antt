@@ -1,4 +1,5 @@
--- Legal schedules. Source: the constraints of SLOTHY (TCHES 2024), as rules on one choice after another.
+-- Legal schedules. Source: the constraints of SLOTHY (TCHES 2024), as
+-- rules on one choice after another.
 use Rattle.std.specs.Prelude.{ℕ, Bool, true, false, ◌≡◌, ◌==◌, ◌&&◌, ◌||◌, not, map, filter, length, zero, suc, List, [], ◌∷◌, ◌++◌, slice_get, slice_index_or, Option, None, Some, if◌then◌else◌}
 use Rattle.std.specs.Int.{bit_at}
 use Rattle.std.specs.List.{list_all, list_any, zip, enumerate_from, flat_map}
@@ -8,8 +9,8 @@ use Rattle.sl_model.specs.declared.instruction.Instr.{Instr}
 use Rattle.sl_model.specs.declared.schedule.Choice.{Choice}
 use Rattle.sl_model.specs.declared.schedule.Source.{Source}
 use Rattle.sl_model.specs.declared.schedule.Source.TheVariants.{Item}
-use Rattle.sl_model.specs.declared.problem.Rule.{Rule}
-use Rattle.sl_model.specs.declared.problem.Rule.TheVariants.{L1, L2, L3, L4, L5, L6, L7}
+use Rattle.sl_model.specs.declared.rules.Rule.{Rule}
+use Rattle.sl_model.specs.declared.rules.Rule.TheVariants.{L1, L2, L3, L4, L5, L6, L7}
 use Rattle.sl_model.specs.Register.{same_reg, same_bool, bank_number}
 use Rattle.sl_model.specs.Source.{outputs, padded, item_at, list_sources, last_source}
 use Rattle.sl_model.specs.Cycles.{CostTable, row_of}
@@ -17,8 +18,9 @@ use Rattle.sl_model.specs.RegSets.{set_has, set_of}
 use Rattle.sl_model.specs.Isa.{Isa}
 use Rattle.sl_model.specs.Body.{Body, same_source, conflict, chosen, is_placed, held, given, is_still_held, above, all_differ, stands_in, is_full}
 
--- A problem: items by number, the order in which they stand, the sources of each item's operands, the registers with
--- the value that must stand in them at the end, the registers that each item may write, and what items cost.
+-- A problem: items by number, the order in which they stand, the sources of each item's operands,
+-- the registers with the value that must stand in them at the end, the registers that each item
+-- may write, and what items cost.
 pub record Problem : Type 0 where
   pub items : List Instr
   pub order : List ℕ
@@ -28,18 +30,22 @@ pub record Problem : Type 0 where
   pub costs : CostTable
   pub looped : Bool
 
+-- the sources of the operands of an item
 abbrev pub sources_in : Problem → ℕ → List Source
 sources_in problem p = slice_index_or problem.sources p []
 
+-- the registers that an item may write
 abbrev pub allowed_in : Problem → ℕ → RegSet
 allowed_in problem p = slice_index_or problem.allowed p (record { bits = 0 })
 
 -- the items of a problem as a body
 abbrev pub body_of : Problem → Body
-body_of problem = record { instr = item_at problem.items; sources = sources_in problem; order = problem.order }
+body_of problem =
+    record { instr = item_at problem.items; sources = sources_in problem; order = problem.order }
 
 -- In what follows `done` is the choices made so far, the last first, and `c` the next one.
 
+-- Is there a register, and is it one of a set?
 abbrev pub is_in_set : RegSet → Option Reg → Bool
 is_in_set set None = false
 is_in_set set (Some r) = set_has set r
@@ -50,8 +56,10 @@ is_held_in done x = is_still_held done x.0 && is_in_set x.1 (given done x.0)
 
 -- the classes of the operands of an item, with their sources
 abbrev pub operand_classes : Isa → Problem → ℕ → List (Source × RegSet)
-operand_classes isa problem p = zip (sources_in problem p) (isa.info (item_at problem.items p).form).in_sets
+operand_classes isa problem p =
+    zip (sources_in problem p) (isa.info (item_at problem.items p).form).in_sets
 
+-- Is there a register, and is it this one?
 abbrev pub is_register : Reg → Option Reg → Bool
 is_register r None = false
 is_register r (Some q) = same_reg q r
@@ -64,19 +72,23 @@ is_given done r (Some s) = is_register r (given done s)
 -- Is an output that is tied to an operand in the register of that operand?
 abbrev pub is_tied : Problem → List Choice → ℕ → Reg × Option ℕ → Bool
 is_tied problem done item (r, None) = true
-is_tied problem done item (r, Some operand) = is_given done r (slice_get (sources_in problem item) operand)
+is_tied problem done item (r, Some operand) =
+    is_given done r (slice_get (sources_in problem item) operand)
 
+-- Is a register the flags?
 abbrev pub is_flags : Reg → Bool
 is_flags r = bank_number r.bank == 2
 
 -- Is the register of the class of each operand that reads this value?
 abbrev pub suits_readers : Isa → Problem → Source → Reg → Bool
 suits_readers isa problem value r =
-    list_all (λ p. list_all (λ x. not (same_source x.0 value) || set_has x.1 r) (operand_classes isa problem p)) problem.order
+    list_all (λ p. list_all (λ x. not (same_source x.0 value) || set_has x.1 r)
+    (operand_classes isa problem p)) problem.order
 
 -- Is the register the one in which this value is final, wherever it is final?
 abbrev pub suits_finals : Problem → Source → Reg → Bool
-suits_finals problem value r = list_all (λ f. not (same_source f.1 value) || same_reg f.0 r) problem.finals
+suits_finals problem value r =
+    list_all (λ f. not (same_source f.1 value) || same_reg f.0 r) problem.finals
 
 -- the register, class and original register of each output of an item, with the output's place
 abbrev pub output_classes : Isa → Problem → Choice → List (ℕ × ((Reg × RegSet) × Reg))
@@ -99,7 +111,9 @@ is_final_in problem r value = list_any (λ f. same_reg f.0 r && same_source f.1 
 -- Does an item that is still unplaced, this one aside, read a value?
 abbrev pub is_still_read : Problem → List Choice → ℕ → Source → Bool
 is_still_read problem done item value =
-    list_any (λ p. not (p == item) && (not (is_placed done p) && list_any (same_source value) (sources_in problem p))) problem.order
+    list_any (λ p. not (p == item)
+    && (not (is_placed done p)
+    && list_any (same_source value) (sources_in problem p))) problem.order
 
 -- May a register be overwritten by an item?
 abbrev pub may_overwrite : Problem → List Choice → ℕ → Reg → Bool
@@ -110,29 +124,37 @@ may_overwrite problem done item r =
 abbrev pub keeps_l1 : Problem → List Choice → Choice → Bool
 keeps_l1 problem done c = not (is_placed done c.item)
 
--- L2: each operand's source is placed or an entry, its register still holds it and is of the operand's class.
+-- L2: each operand's source is placed or an entry, its register still holds it
+-- and is of the operand's class.
 abbrev pub keeps_l2 : Isa → Problem → List Choice → Choice → Bool
 keeps_l2 isa problem done c = list_all (is_held_in done) (operand_classes isa problem c.item)
 
 -- L3: a tied output is in the register of its input.
 abbrev pub keeps_l3 : Isa → Problem → List Choice → Choice → Bool
-keeps_l3 isa problem done c = list_all (is_tied problem done c.item) (zip (chosen c) (isa.info (item_at problem.items c.item).form).tied)
+keeps_l3 isa problem done c =
+    list_all (is_tied problem done c.item)
+    (zip (chosen c) (isa.info (item_at problem.items c.item).form).tied)
 
--- L4: each output's register is allowed for the item, of the output's class and of the class of each operand that
--- reads it; the outputs differ; a final value is in its final register; the flags are in flags.
+-- L4: each output's register is allowed for the item, of the output's class and of the
+-- class of each operand that reads it; the outputs differ; a final value is in its final
+-- register; the flags are in flags.
 abbrev pub keeps_l4 : Isa → Problem → Choice → Bool
-keeps_l4 isa problem c = list_all (suits_output isa problem c.item) (output_classes isa problem c) && all_differ (chosen c)
+keeps_l4 isa problem c =
+    list_all (suits_output isa problem c.item) (output_classes isa problem c)
+    && all_differ (chosen c)
 
 -- L5: each item that stands above it and conflicts with it is placed.
 abbrev pub keeps_l5 : Isa → Problem → List Choice → Choice → Bool
 keeps_l5 isa problem done c =
-    list_all (λ p. not (conflict isa (body_of problem) p c.item) || is_placed done p) (above c.item problem.order)
+    list_all (λ p. not (conflict isa (body_of problem) p c.item) || is_placed done p)
+    (above c.item problem.order)
 
 -- L6: the unit is one of the class's.
 abbrev pub keeps_l6 : Problem → Choice → Bool
 keeps_l6 problem c = bit_at (row_of problem.costs c.item).units c.unit == 1
 
--- L7: no output goes to a register that holds a value which is final there, or which an unplaced item reads.
+-- L7: no output goes to a register that holds a value which is final there,
+-- or which an unplaced item reads.
 abbrev pub keeps_l7 : Problem → List Choice → Choice → Bool
 keeps_l7 problem done c = list_all (may_overwrite problem done c.item) (chosen c)
 
@@ -147,21 +169,24 @@ first_broken isa problem done c =
     if not (keeps_l6 problem c) then Some L6 else
     if not (keeps_l7 problem done c) then Some L7 else None
 
--- A choice is of a problem: its item is one of it, and it has a register for each output, the rest of its places empty.
+-- A choice is of a problem: its item is one of it, and it has a register for each
+-- output, the rest of its places empty.
 pub record IsOf (problem : Problem) (c : Choice) : Type 0 where
   pub known : stands_in c.item problem.order ≡ true
   pub shape : c.outs ≡ padded 3 (chosen c)
   pub outputs_given : length (chosen c) ≡ length (outputs (item_at problem.items c.item))
 
 -- a choice is legal after those made so far
-pub record IsLegalNext (isa : Isa) (problem : Problem) (done : List Choice) (c : Choice) : Type 0 where
+pub record IsLegalNext (isa : Isa) (problem : Problem) (done : List Choice)
+    (c : Choice) : Type 0 where
   pub of : IsOf problem c
   pub rules : first_broken isa problem done c ≡ None
 
 -- A list of choices is legal where each, after those before it, is.
 abbrev pub IsLegalFrom : Isa → Problem → List Choice → List Choice → Type 0
 IsLegalFrom isa problem done [] = Unit {0}
-IsLegalFrom isa problem done (c ∷ choices) = IsLegalNext isa problem done c × IsLegalFrom isa problem (c ∷ done) choices
+IsLegalFrom isa problem done (c ∷ choices) =
+    IsLegalNext isa problem done c × IsLegalFrom isa problem (c ∷ done) choices
 
 -- A full legal schedule: legal from the first choice on, and each item is placed.
 pub record IsFullLegal (isa : Isa) (problem : Problem) (schedule : List Choice) : Type 0 where
@@ -179,8 +204,8 @@ numbers_below (suc n) = numbers_below n ++ n ∷ []
 abbrev pub written : List Instr → List Reg
 written items = filter (λ r. not r.symbolic) (flat_map outputs items)
 
--- The items in their own order with their own sources. The finals are the live-out registers, each with its last
--- writer; the registers that the items write, and the free ones, are allowed.
+-- The items in their own order with their own sources. The finals are the live-out registers, each
+-- with its last writer; the registers that the items write, and the free ones, are allowed.
 abbrev pub straight_problem : List Instr → List Reg → List Reg → CostTable → Problem
 straight_problem items live free costs = record {
   items = items;

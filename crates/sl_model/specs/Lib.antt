@@ -1,11 +1,17 @@
+pub mod OptionSteps
+pub mod ResultSteps
+pub mod Answers
 pub mod Register
 pub mod RegSets
+pub mod RegisterNames
 pub mod Source
 pub mod Cycles
+pub mod Digits
 pub mod Text
 pub mod Token
+pub mod TokenTests
 pub mod State
-pub mod StateText
+pub mod Machine
 pub mod Isa
 pub mod Exec
 pub mod Body
@@ -13,4 +19,3 @@ pub mod Lawful
 pub mod Legal
 pub mod Space
 pub mod Program
-pub mod Machine

@@ -1,5 +1,5 @@
--- The machines: how many addresses there are, how wide registers are, and which of them count. Source: DDI 0487
--- (A64) and DDI 0403 (Armv7-M).
+-- The machines: how many addresses there are, how wide registers are, and which of them count.
+-- Source: DDI 0487 (A64) and DDI 0403 (Armv7-M).
 use Rattle.std.specs.Prelude.{ℕ, Bool, ◌^◌, ◌==◌, ◌&&◌, ◌||◌, not, nat_lt}
 use Rattle.sl_model.specs.declared.register.Bank.{Bank}
 use Rattle.sl_model.specs.declared.register.Bank.TheVariants.{General, Vector, Flags, Stack}
@@ -29,6 +29,7 @@ abbrev pub counts : ArchName → ℕ → Bool
 counts Arm64 number = nat_lt number 31
 counts M4 number = nat_lt number 13 || number == 14
 
--- Can a register be the counter of a loop? It is a general register of the machine, and not the zero register.
+-- Can a register be the counter of a loop? It is a general register of the
+-- machine, and not the zero register.
 abbrev pub can_count : ArchName → Reg → Bool
 can_count name r = bank_number r.bank == 0 && (not r.symbolic && counts name r.number)

@@ -10,9 +10,10 @@ use Rattle.sl_model.specs.Exec.{Touch, run, touches}
 use Rattle.sl_model.specs.Source.{place_from}
 use Rattle.sl_model.specs.Legal.{written}
 use Rattle.sl_model.specs.Body.{tags_differ}
+use Rattle.sl_model.specs.Machine.{space_of}
 
--- A program: a straight list, or a loop whose body runs, and whose counter falls by one, until the counter is 0.
--- `flagged` says that the decrement writes the flags.
+-- A program: a straight list, or a loop whose body runs, and whose counter falls by one, until the
+-- counter is 0. `flagged` says that the decrement writes the flags.
 pub data Program : Type 0 where
   Straight : List Instr → Program
   Loop : List Instr → List Instr → Reg → Bool → List Instr → Program
@@ -22,15 +23,18 @@ unfoldable pub copies : ℕ → List Instr → List Instr
 copies zero items = []
 copies (suc n) items = items ++ copies n items
 
--- how often a loop's body runs where the counter has a value: 0 stands for as many as there are addresses
+-- how often a loop's body runs where the counter has a value: 0 stands for
+-- as many as there are addresses
 abbrev pub turns_at : ℕ → ℕ → ℕ
 turns_at space count = if count == 0 then space else count
 
--- The instructions that a program runs from a state, in order. `decrement` takes one from a counter.
+-- The instructions that a program runs from a state, in order.
+-- `decrement` takes one from a counter.
 abbrev pub trace : Isa → (Bool → Reg → Instr) → Program → State → List Instr
 trace isa decrement (Straight items) s = items
 trace isa decrement (Loop before body counter flagged after) s =
-    before ++ (copies (turns_at isa.space (read (run isa before s) counter)) (body ++ decrement flagged counter ∷ []) ++ after)
+    before ++ (copies (turns_at (space_of isa.name) (read (run isa before s) counter))
+    (body ++ decrement flagged counter ∷ []) ++ after)
 
 -- the state that a program leaves
 abbrev pub end_of : Isa → (Bool → Reg → Instr) → Program → State → State
@@ -42,7 +46,8 @@ accesses isa decrement program s = touches isa (trace isa decrement program s) s
 
 -- Two accesses share a byte.
 abbrev pub ShareByte : ℕ → Touch → Touch → Type 0
-ShareByte space a b = (j k : ℕ) × (j < a.size) × (k < b.size) × ((a.address + j) % space ≡ (b.address + k) % space)
+ShareByte space a b =
+    (j k : ℕ) × (j < a.size) × (k < b.size) × ((a.address + j) % space ≡ (b.address + k) % space)
 
 -- Is this one of these accesses?
 abbrev pub IsAmong : Touch → List Touch → Type 0
@@ -51,12 +56,15 @@ IsAmong a (b ∷ all) = (a ≡ b) ⊎ IsAmong a all
 
 -- No two of these accesses whose tags differ share a byte.
 abbrev pub TagsHoldOf : ℕ → List Touch → Type 0
-TagsHoldOf space all = (a b : Touch) → IsAmong a all → IsAmong b all → tags_differ a.tag b.tag ≡ true → ShareByte space a b → ⊥
+TagsHoldOf space all =
+    (a b : Touch) → IsAmong a all → IsAmong b all → tags_differ a.tag b.tag ≡ true
+    → ShareByte space a b → ⊥
 
--- how often an access occurs, tags aside
+-- Are two accesses the same, tags aside?
 abbrev pub is_access : Touch → Touch → Bool
 is_access a b = same_bool a.store b.store && (a.address == b.address && a.size == b.size)
 
+-- how often an access occurs among others, tags aside
 unfoldable pub times_of : Touch → List Touch → ℕ
 times_of a [] = 0
 times_of a (b ∷ all) = (if is_access a b then 1 else 0) + times_of a all
@@ -64,7 +72,8 @@ times_of a (b ∷ all) = (if is_access a b then 1 else 0) + times_of a all
 -- the registers that a program writes
 abbrev pub writes : (Bool → Reg → Instr) → Program → List Reg
 writes decrement (Straight items) = written items
-writes decrement (Loop before body counter flagged after) = written (before ++ (body ++ (decrement flagged counter ∷ after)))
+writes decrement (Loop before body counter flagged after) =
+    written (before ++ (body ++ (decrement flagged counter ∷ after)))
 
 -- the counter of a loop
 abbrev pub counter_of : Program → List Reg
@@ -75,11 +84,19 @@ counter_of (Loop before body counter flagged after) = counter ∷ []
 abbrev pub is_one_of : Reg → List Reg → Bool
 is_one_of r regs = is_some (place_from 0 r regs)
 
--- The new program leaves what the old one leaves from a state: the live-out registers and the counter have the same
--- values; each address reads the same byte; each register of the machine that the old program doesn't write, and that is
--- neither live-out nor free, keeps its value; and each access is made as often.
-pub record Leaves (isa : Isa) (decrement : Bool → Reg → Instr) (live free : List Reg) (old new : Program) (s : State) : Type 0 where
-  pub registers : (r : Reg) → is_one_of r (live ++ counter_of old) ≡ true → read (end_of isa decrement new s) r ≡ read (end_of isa decrement old s) r
-  pub bytes : (address : ℕ) → byte (end_of isa decrement new s).memory address ≡ byte (end_of isa decrement old s).memory address
-  pub others : (r : Reg) → r.symbolic ≡ false → is_one_of r (writes decrement old ++ (live ++ free)) ≡ false → read (end_of isa decrement new s) r ≡ read s r
-  pub access_counts : (a : Touch) → times_of a (accesses isa decrement new s) ≡ times_of a (accesses isa decrement old s)
+-- The new program leaves what the old one leaves from a state: the live-out registers and the
+-- counter have the same values; each address reads the same byte; each register of the machine
+-- that the old program doesn't write, and that is neither live-out nor free, keeps its value;
+-- and each access is made as often.
+pub record Leaves (isa : Isa) (decrement : Bool → Reg → Instr) (live free : List Reg)
+    (old new : Program) (s : State) : Type 0 where
+  pub registers : (r : Reg) → is_one_of r (live ++ counter_of old) ≡ true
+      → read (end_of isa decrement new s) r ≡ read (end_of isa decrement old s) r
+  pub bytes : (address : ℕ)
+      → byte (end_of isa decrement new s).memory address
+      ≡ byte (end_of isa decrement old s).memory address
+  pub others : (r : Reg) → r.symbolic ≡ false
+      → is_one_of r (writes decrement old ++ (live ++ free)) ≡ false
+      → read (end_of isa decrement new s) r ≡ read s r
+  pub access_counts : (a : Touch)
+      → times_of a (accesses isa decrement new s) ≡ times_of a (accesses isa decrement old s)

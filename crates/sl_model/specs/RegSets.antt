@@ -1,5 +1,5 @@
--- Sets of registers of the machine: the register classes of an instruction's operands. Source: DDI 0487 (A64) and DDI 0403
--- (Armv7-M), the register fields of encodings.
+-- Sets of registers of the machine: the register classes of an instruction's operands. Source: DDI
+-- 0487 (A64) and DDI 0403 (Armv7-M), the register fields of encodings.
 use Rattle.std.specs.Prelude.{ℕ, Bool, nat_lt, ◌+◌, ◌^◌, ◌==◌, ◌&&◌, not, bit_or, List, [], ◌∷◌, if◌then◌else◌}
 use Rattle.std.specs.Int.{bit_at}
 use Rattle.sl_model.specs.declared.register.Bank.{Bank}
@@ -35,7 +35,9 @@ set_has set r = not r.symbolic && (bit_at set.bits (bit_of r.bank r.number) == 1
 
 -- a register beside those of a set, where it is of the machine
 abbrev pub with_reg : Reg → RegSet → RegSet
-with_reg r set = record { bits = if is_of_machine r then bit_or (2 ^ bit_of r.bank r.number) set.bits else set.bits }
+with_reg r set = record {
+  bits = if is_of_machine r then bit_or (2 ^ bit_of r.bank r.number) set.bits else set.bits;
+}
 
 -- the set of those registers that are of the machine
 unfoldable pub set_of : List Reg → RegSet

@@ -11,6 +11,7 @@ bank_number Vector = 1
 bank_number Flags = 2
 bank_number Stack = 3
 
+-- Are two tests answered alike?
 abbrev pub same_bool : Bool → Bool → Bool
 same_bool true true = true
 same_bool false false = true
@@ -19,4 +20,6 @@ same_bool false true = false
 
 -- Are these two names of one register?
 unfoldable pub same_reg : Reg → Reg → Bool
-same_reg a b = bank_number a.bank == bank_number b.bank && (same_bool a.symbolic b.symbolic && (a.number == b.number))
+same_reg a b =
+    bank_number a.bank == bank_number b.bank
+    && (same_bool a.symbolic b.symbolic && (a.number == b.number))

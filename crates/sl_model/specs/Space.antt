@@ -1,5 +1,5 @@
--- The stated space of a problem, the order of schedules, and the best of the space. Source: the search of SLOTHY (TCHES
--- 2024), as the least of a listed space.
+-- The stated space of a problem, the order of schedules, and the best of the space. Source: the
+-- search of SLOTHY (TCHES 2024), as the least of a listed space.
 use Rattle.std.specs.Prelude.{ℕ, Bool, true, false, ◌≤◌, ◌≡◌, ◌==◌, ◌&&◌, ◌||◌, not, map, List, [], ◌∷◌, ◌++◌, slice_get, Option, None, Some, is_some, nat_lt}
 use Rattle.std.specs.Ordering.{nat_cmp}
 use Rattle.std.specs.Cmp.Lexicographic.{slice_cmp}
@@ -19,15 +19,17 @@ use Rattle.sl_model.specs.Legal.{Problem, IsFullLegal, sources_in, output_classe
 
 -- The stalls of a straight schedule.
 abbrev pub stalls_of : Problem → List Choice → ℕ
-stalls_of problem schedule = stalls problem.costs.width (timed problem.costs (sources_in problem) schedule)
+stalls_of problem schedule =
+    stalls problem.costs.width (timed problem.costs (sources_in problem) schedule)
 
--- The order of schedules: choices go by item, unit and registers, and lists by their first difference, a list before
--- those that it begins. Registers go by their bits in a set.
+-- The order of schedules: choices go by item, unit and registers, and lists by their first
+-- difference, a list before those that it begins. Registers go by their bits in a set.
 
 -- a choice as numbers
 abbrev pub choice_key : Choice → List ℕ
 choice_key c = c.item ∷ c.unit ∷ map (λ r. bit_of r.bank r.number) (chosen c)
 
+-- a schedule as such numbers
 abbrev pub schedule_key : List Choice → List (List ℕ)
 schedule_key schedule = map choice_key schedule
 
@@ -41,25 +43,30 @@ is_final problem r = list_any (λ f. same_reg f.0 r) problem.finals
 
 -- the classes of the operands and outputs of a problem's items
 abbrev pub classes : Isa → Problem → List RegSet
-classes isa problem = flat_map (λ i. (isa.info i.form).in_sets ++ (isa.info i.form).out_sets) problem.items
+classes isa problem =
+    flat_map (λ i. (isa.info i.form).in_sets ++ (isa.info i.form).out_sets) problem.items
 
 -- Are two registers of one kind: of one bank and of the same classes, and neither is final?
 abbrev pub same_kind : Isa → Problem → Reg → Reg → Bool
 same_kind isa problem a b =
-    (bank_number a.bank == bank_number b.bank && (not (is_final problem a) && not (is_final problem b)))
+    (bank_number a.bank == bank_number b.bank
+    && (not (is_final problem a) && not (is_final problem b)))
     && list_all (λ set. same_bool (set_has set a) (set_has set b)) (classes isa problem)
 
 -- Is an output of an item final somewhere?
 abbrev pub is_final_output : Problem → ℕ → ℕ → Bool
-is_final_output problem item place = list_any (λ f. same_source f.1 (Item item place)) problem.finals
+is_final_output problem item place =
+    list_any (λ f. same_source f.1 (Item item place)) problem.finals
 
+-- Is there an output at a place, and is it tied?
 abbrev pub tied_at : Option (Option ℕ) → Bool
 tied_at None = false
 tied_at (Some tied) = is_some tied
 
 -- Is an output tied?
 abbrev pub is_tied_output : Isa → Problem → ℕ → ℕ → Bool
-is_tied_output isa problem item place = tied_at (slice_get (isa.info (item_at problem.items item).form).tied place)
+is_tied_output isa problem item place =
+    tied_at (slice_get (isa.info (item_at problem.items item).form).tied place)
 
 -- the registers of a choice's outputs, with their places
 abbrev pub placed_outputs : Choice → List (ℕ × Reg)
@@ -68,33 +75,45 @@ placed_outputs c = enumerate_from 0 (chosen c)
 -- Is the register of an output free to choose: the output is neither final, tied nor the flags?
 abbrev pub is_free_output : Isa → Problem → Choice → ℕ × Reg → Bool
 is_free_output isa problem c x =
-    not (is_final_output problem c.item x.0) && (not (is_tied_output isa problem c.item x.0) && not (is_flags x.1))
+    not (is_final_output problem c.item x.0)
+    && (not (is_tied_output isa problem c.item x.0) && not (is_flags x.1))
 
--- Is a register taken by another output of the choice: by one that isn't free to choose, or by an earlier one?
+-- Is a register taken by another output of the choice: by one that isn't free
+-- to choose, or by an earlier one?
 abbrev pub is_taken : Isa → Problem → Choice → ℕ → Reg → Bool
 is_taken isa problem c place r =
-    list_any (λ x. same_reg x.1 r && (nat_lt x.0 place || (not (x.0 == place) && not (is_free_output isa problem c x)))) (placed_outputs c)
+    list_any (λ x. same_reg x.1 r
+    && (nat_lt x.0 place || (not (x.0 == place) && not (is_free_output isa problem c x))))
+    (placed_outputs c)
 
--- May an output of a choice go to another register, as far as the rules on outputs and on overwriting say?
+-- May an output of a choice go to another register, as far as the rules on
+-- outputs and on overwriting say?
 abbrev pub could_take : Isa → Problem → List Choice → Choice → ℕ → Reg → Bool
 could_take isa problem done c place r =
-    list_all (λ x. not (x.0 == place) || suits_output isa problem c.item (x.0, ((r, x.1.0.1), x.1.1))) (output_classes isa problem c)
+    list_all (λ x. not (x.0 == place)
+    || suits_output isa problem c.item (x.0, ((r, x.1.0.1), x.1.1))) (output_classes isa problem c)
     && may_overwrite problem done c.item r
 
--- A choice is reduced: each output that is free to choose is in the least register of its kind that it could take, other
--- than those that are taken.
-pub record IsReducedNext (isa : Isa) (problem : Problem) (done : List Choice) (c : Choice) : Type 0 where
-  pub least : (place : ℕ) (r other : Reg) → slice_get (chosen c) place ≡ Some r → is_free_output isa problem c (place, r) ≡ true
-      → same_kind isa problem r other ≡ true → could_take isa problem done c place other ≡ true → is_taken isa problem c place other ≡ false
+-- A choice is reduced: each output that is free to choose is in the least register of its kind that
+-- it could take, other than those that are taken.
+pub record IsReducedNext (isa : Isa) (problem : Problem) (done : List Choice)
+    (c : Choice) : Type 0 where
+  pub least : (place : ℕ) (r other : Reg) → slice_get (chosen c) place ≡ Some r
+      → is_free_output isa problem c (place, r) ≡ true
+      → same_kind isa problem r other ≡ true → could_take isa problem done c place other ≡ true
+      → is_taken isa problem c place other ≡ false
       → bit_of r.bank r.number ≤ bit_of other.bank other.number
 
 -- Each choice of a list, after those before it, is reduced.
 abbrev pub IsReducedFrom : Isa → Problem → List Choice → List Choice → Type 0
 IsReducedFrom isa problem done [] = Unit {0}
-IsReducedFrom isa problem done (c ∷ choices) = IsReducedNext isa problem done c × IsReducedFrom isa problem (c ∷ done) choices
+IsReducedFrom isa problem done (c ∷ choices) =
+    IsReducedNext isa problem done c × IsReducedFrom isa problem (c ∷ done) choices
 
--- The stated space of a straight problem: its full legal lists of reduced choices with at most so many stalls.
-pub record InSpace (isa : Isa) (problem : Problem) (most : ℕ) (schedule : List Choice) : Type 0 where
+-- The stated space of a straight problem: its full legal lists of reduced
+-- choices with at most so many stalls.
+pub record InSpace (isa : Isa) (problem : Problem) (most : ℕ)
+    (schedule : List Choice) : Type 0 where
   pub legal : IsFullLegal isa problem schedule
   pub reduced : IsReducedFrom isa problem [] schedule
   pub stalls : stalls_of problem schedule ≤ most
@@ -102,5 +121,7 @@ pub record InSpace (isa : Isa) (problem : Problem) (most : ℕ) (schedule : List
 -- The best of a space: no member has fewer stalls, and of those with as many none comes before it.
 pub record IsBest (isa : Isa) (problem : Problem) (most : ℕ) (schedule : List Choice) : Type 0 where
   pub member : InSpace isa problem most schedule
-  pub fewest : (other : List Choice) → InSpace isa problem most other → stalls_of problem schedule ≤ stalls_of problem other
-  pub first : (other : List Choice) → InSpace isa problem most other → stalls_of problem other ≡ stalls_of problem schedule → comes_before other schedule ≡ false
+  pub fewest : (other : List Choice) → InSpace isa problem most other
+      → stalls_of problem schedule ≤ stalls_of problem other
+  pub first : (other : List Choice) → InSpace isa problem most other
+      → stalls_of problem other ≡ stalls_of problem schedule → comes_before other schedule ≡ false

@@ -10,7 +10,8 @@ use Rattle.sl_model.specs.Register.{bank_number}
 abbrev pub reg_key : Reg → List ℕ
 reg_key r = bank_number r.bank ∷ (if r.symbolic then 1 else 0) ∷ r.number ∷ []
 
--- A state: the registers that were set or written, with their values, and the bytes of memory that were set or written.
+-- A state: the registers that were set or written, with their values, and the bytes of
+-- memory that were set or written.
 pub record State : Type 0 where
   pub regs : FinMap (slice_cmp nat_cmp) ℕ
   pub memory : FinMap nat_cmp ℕ
@@ -44,9 +45,11 @@ write_all (r ∷ regs) (value ∷ values) s = write_all regs values (write r val
 -- so many bytes from an address on; addresses are taken modulo the size of the address space
 unfoldable pub load : ℕ → FinMap nat_cmp ℕ → ℕ → ℕ → List ℕ
 load space memory address zero = []
-load space memory address (suc size) = byte memory (address % space) ∷ load space memory (address + 1) size
+load space memory address (suc size) =
+    byte memory (address % space) ∷ load space memory (address + 1) size
 
 -- Bytes go to memory from an address on.
 unfoldable pub store : ℕ → ℕ → List ℕ → FinMap nat_cmp ℕ → FinMap nat_cmp ℕ
 store space address [] memory = memory
-store space address (b ∷ bytes) memory = store space (address + 1) bytes (put (address % space) b memory)
+store space address (b ∷ bytes) memory =
+    store space (address + 1) bytes (put (address % space) b memory)

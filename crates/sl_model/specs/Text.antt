@@ -11,10 +11,12 @@ abbrev pub prepend : ℕ → List (List ℕ) → List (List ℕ)
 prepend c [] = (c ∷ []) ∷ []
 prepend c (line ∷ lines) = (c ∷ line) ∷ lines
 
--- The lines of a text, each with its end: a line ends behind a line feed, and the last one may end with the text.
+-- The lines of a text, each with its end: a line ends behind a line feed, and the
+-- last one may end with the text.
 unfoldable pub whole_lines : List ℕ → List (List ℕ)
 whole_lines [] = []
-whole_lines (c ∷ text) = if c == 10 then (c ∷ []) ∷ whole_lines text else prepend c (whole_lines text)
+whole_lines (c ∷ text) =
+    if c == 10 then (c ∷ []) ∷ whole_lines text else prepend c (whole_lines text)
 
 -- Is this a line's end: a line feed, or a carriage return and a line feed?
 abbrev pub is_line_end : List ℕ → Bool
@@ -51,18 +53,22 @@ abbrev pub is_quiet : List ℕ → Bool
 is_quiet [] = true
 is_quiet (c ∷ text) = starts_with nat_eq (c ∷ text) (codes "//")
 
--- Does a line, given without its end, hold after blanks the label and a colon directly behind it, and then
--- nothing but blanks or a comment?
+-- Does a line, given without its end, hold after blanks the label and a colon directly behind it,
+-- and then nothing but blanks or a comment?
 unfoldable pub is_marker : List ℕ → List ℕ → Bool
-is_marker label line = starts_with nat_eq (skip_blanks line) (label ++ codes ":") && is_quiet (skip_blanks (drop (length label + 1) (skip_blanks line)))
+is_marker label line =
+    starts_with nat_eq (skip_blanks line) (label ++ codes ":")
+    && is_quiet (skip_blanks (drop (length label + 1) (skip_blanks line)))
 
 -- the numbers of the marker lines of a label among lines that are numbered from a first one
 unfoldable pub marker_numbers : List ℕ → ℕ → List (List ℕ) → List ℕ
 marker_numbers label number [] = []
-marker_numbers label number (line ∷ lines) = if is_marker label (without_end line) then number ∷ marker_numbers label (number + 1) lines else marker_numbers label (number + 1) lines
+marker_numbers label number (line ∷ lines) =
+    if is_marker label (without_end line) then number ∷ marker_numbers label (number + 1) lines
+    else marker_numbers label (number + 1) lines
 
--- The parts of a text: up to and with the start marker's line, between the markers, and from the start of the end
--- marker's line; and the number of the first line between them.
+-- The parts of a text: up to and with the start marker's line, between the markers, and from the
+-- start of the end marker's line; and the number of the first line between them.
 pub record Parts : Type 0 where
   pub before : List ℕ
   pub body : List ℕ
@@ -78,26 +84,33 @@ parts_at lines start end = record {
   first = start + 1;
 }
 
--- The cut of lines whose start markers and end markers have these numbers. Each marker stands once, the end below
--- the start. Of several faults the first counts: a second start, no start, a second end, no end below the start.
+-- The cut of lines whose start markers and end markers have these numbers. Each marker stands
+-- once, the end below the start. Of several faults the first counts: a second start, no start, a
+-- second end, no end below the start.
 abbrev pub cut_at : List (List ℕ) → List ℕ → List ℕ → Result Parts CutRefusal
 cut_at lines (start ∷ second ∷ more) ends = Err (Twice second)
 cut_at lines [] ends = Err NoStart
 cut_at lines (start ∷ []) (end ∷ second ∷ more) = Err (Twice second)
 cut_at lines (start ∷ []) [] = Err NoEnd
-cut_at lines (start ∷ []) (end ∷ []) = if nat_lt start end then Ok (parts_at lines start end) else Err NoEnd
+cut_at lines (start ∷ []) (end ∷ []) =
+    if nat_lt start end then Ok (parts_at lines start end) else Err NoEnd
 
 -- the cut of a text at the labels of its start and its end
 unfoldable pub cut : List ℕ → List ℕ → List ℕ → Result Parts CutRefusal
-cut start end text = cut_at (whole_lines text) (marker_numbers start 1 (whole_lines text)) (marker_numbers end 1 (whole_lines text))
+cut start end text =
+    cut_at (whole_lines text) (marker_numbers start 1 (whole_lines text))
+    (marker_numbers end 1 (whole_lines text))
 
 -- the number of the line, counted from 1, that a place of a text stands on
 abbrev pub line_number : List ℕ → ℕ → ℕ
 line_number text place = count_by (λ c. c == 10) (take place text) + 1
 
--- The line of the first byte that belongs to no character, and None where the bytes are UTF-8. Source: Unicode, table 3-7.
+-- The line of the first byte that belongs to no character, and None where the bytes are
+-- UTF-8. Source: Unicode, table 3-7.
 unfoldable pub bad_line : List ℕ → Option ℕ
-bad_line bytes = if utf8_valid_len bytes == length bytes then None else Some (line_number bytes (utf8_valid_len bytes))
+bad_line bytes =
+    if utf8_valid_len bytes == length bytes then None
+    else Some (line_number bytes (utf8_valid_len bytes))
 
 -- Does a word stand somewhere in a text?
 unfoldable pub holds : List ℕ → List ℕ → Bool

@@ -40,8 +40,8 @@ begins_line_comment SlashAt text =
 abbrev pub first_char : List ℕ → ℕ
 first_char text = slice_index (chars text) 0
 
--- The kind and the length of the token that a text begins with; the text is not empty and begins with no
--- blank.
+-- The kind and the length of the token that a text begins with; the text is not
+-- empty and begins with no blank.
 unfoldable pub first_token : Comments → List ℕ → TokenKind × ℕ
 first_token comments text =
     if starts_with nat_eq text (codes "/*") then (Comment, comment_length (drop 2 text) + 2)
@@ -54,8 +54,8 @@ first_token comments text =
 abbrev pub lexeme : TokenKind × ℕ → ℕ → List ℕ → Lexeme
 lexeme found place text = record { kind = found.0; text = take found.1 text; start = place }
 
--- The tokens of a text that stands at a place of its line, where the first `taken` bytes belong to the
--- token before.
+-- The tokens of a text that stands at a place of its line, where the first `taken`
+-- bytes belong to the token before.
 unfoldable pub tokens_from : Comments → ℕ → ℕ → List ℕ → List Lexeme
 tokens_from comments place taken [] = []
 tokens_from comments place (suc taken) (c ∷ text) = tokens_from comments (place + 1) taken text
@@ -64,8 +64,8 @@ tokens_from comments place zero (c ∷ text) =
     else lexeme (first_token comments (c ∷ text)) place (c ∷ text)
     ∷ tokens_from comments (place + 1) ((first_token comments (c ∷ text)).1 - 1) text
 
--- The tokens of a text that stands at a place of its line; `inside` says that a block comment is open
--- before it.
+-- The tokens of a text that stands at a place of its line; `inside` says that a
+-- block comment is open before it.
 unfoldable pub tokens_at : Comments → Bool → ℕ → List ℕ → List Lexeme
 tokens_at comments false place text = tokens_from comments place 0 text
 tokens_at comments true place [] = []
@@ -77,7 +77,8 @@ tokens_at comments true place (c ∷ text) =
 abbrev pub tokens : Comments → Bool → List ℕ → List Lexeme
 tokens comments inside line = tokens_at comments inside 0 line
 
--- Is a block comment open behind a token of this text, if `inside` says that one was open before it?
+-- Is a block comment open behind a token of this text, if `inside`
+-- says that one was open before it?
 abbrev pub leaves_open : Bool → List ℕ → Bool
 leaves_open true text = not (holds (codes "*/") text)
 leaves_open false text =

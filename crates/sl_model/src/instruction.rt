@@ -2,7 +2,8 @@
 
 use crate::register::{Reg, RegSet};
 
-/// An instruction: its form, the numbers and registers that it was given, and what its line says of it.
+/// An instruction: its form, the numbers and registers that it was
+/// given, and what its line says of it.
 #[derive(Clone, Copy, Debug, PartialEq, Eq)]
 pub struct Instr {
     /// The number of its form in the table of its architecture.

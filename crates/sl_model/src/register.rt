@@ -21,8 +21,8 @@ pub struct Reg {
     pub number: u16,
 }
 
-/// A set of registers of the machine, one bit each: a general register n is bit n, a vector register n
-/// bit 32 + n, the flags bit 64 and the stack pointer bit 65.
+/// A set of registers of the machine, one bit each: a general register n is bit n, a vector
+/// register n bit 32 + n, the flags bit 64 and the stack pointer bit 65.
 #[derive(Clone, Copy, Debug, PartialEq, Eq)]
 pub struct RegSet {
     pub bits: u128,

@@ -24,7 +24,8 @@ pub enum TokenKind {
     Comment,
 }
 
-/// Which characters start a comment to the line's end; `/*` starts one that runs to `*/` in either case.
+/// Which characters start a comment to the line's end; `/*` starts one
+/// that runs to `*/` in either case.
 #[derive(Clone, Copy, Debug, PartialEq, Eq)]
 pub enum Comments {
     /// `//` alone.

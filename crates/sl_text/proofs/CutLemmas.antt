@@ -3,7 +3,7 @@ use Rattle.std.proofs.Common.{◌≡◌, ℕ, ◌+◌, ◌-◌, ◌<◌, ◌≤�
 use Rattle.std.proofs.lemmas.List.{append_cancel_right}
 use Rattle.sl_model.specs.Text.{whole_lines, without_end, is_marker, marker_numbers, joined, cut, cut_at, parts_at}
 use Rattle.sl_model.specs.declared.text.CutRefusal.{CutRefusal}
-use Rattle.sl_model.specs.declared.text.CutRefusal.TheVariants.{NoStart, NoEnd, Twice}
+use Rattle.sl_model.specs.declared.text.CutRefusal.TheVariants.{NoStart, NoEnd}
 use Rattle.sl_text.specs.Cut.{IsMarkerAt, EndsIn, only_number, numbers_in}
 use Rattle.sl_text.proofs.LineLemmas.{joined-whole_lines, joined_split}
 
@@ -24,13 +24,6 @@ marker_none label number text e = ap (λ t. marker_numbers label number (whole_l
 -- the lines below the first of those behind n
 pub lines_below : (n : ℕ) (lines from below : List (List ℕ)) (line : List ℕ) → from ≡ drop n lines → from ≡ line ∷ below → below ≡ drop (n + 1) lines
 lines_below n lines from below line e split = ap (λ v. drop 1 v) (sym split ∙ e) ∙ drop-drop 1 n lines
-
--- the only marker line, and two of them
-pub only_one : (absent : CutRefusal) (numbers later : List ℕ) (number : ℕ) → numbers ≡ number ∷ later → later ≡ [] → only_number absent numbers ≡ Ok number
-only_one absent numbers later number e none = ap (only_number absent) (e ∙ ap (λ v. number ∷ v) none)
-
-pub only_twice : (absent : CutRefusal) (numbers later more : List ℕ) (number second : ℕ) → numbers ≡ number ∷ later → later ≡ second ∷ more → only_number absent numbers ≡ Err (Twice second)
-only_twice absent numbers later more number second e f = ap (only_number absent) (e ∙ ap (λ v. number ∷ v) f)
 
 -- ---- the parts
 

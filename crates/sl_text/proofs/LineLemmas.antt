@@ -5,6 +5,8 @@ use Rattle.std.specs.Str.Lossy.{utf8_valid_len}
 use Rattle.std.specs.List.{enumerate_from}
 use Rattle.sl_model.specs.Text.{whole_lines, without_end, is_line_end, prepend, joined, numbered_lines, bad_line, line_number}
 use Rattle.sl_text.specs.Lines.{line_length}
+use Rattle.sl_laws.proofs.Texts.{without_end_le}
+use Rattle.std.proofs.lemmas.Bool.{and_parts}
 
 -- ---- the first line
 
@@ -18,13 +20,6 @@ whole_lines_first : (c : ℕ) (text : List ℕ) → whole_lines (c ∷ text) ≡
 unfolding whole_lines line_length
 whole_lines_first c [] = elim (eqb c 10) as (λ b. cond b ((c ∷ []) ∷ []) ((c ∷ []) ∷ []) ≡ take (cond b 1 1) (c ∷ []) ∷ whole_lines (drop (cond b 1 1) (c ∷ []))) [ true ↦ refl | false ↦ refl ]
 whole_lines_first c (d ∷ text) = first_step (eqb c 10) c (d ∷ text) (whole_lines (d ∷ text)) (line_length (d ∷ text)) (whole_lines_first d text)
-
-pub line_length_le : (text : List ℕ) → line_length text ≤ length text
-unfolding line_length
-line_length_le [] = omega arith
-line_length_le (c ∷ text) =
-    let short : line_length text ≤ length text = line_length_le text in
-    elim (eqb c 10) as (λ b. cond b 1 (suc (line_length text)) ≤ suc (length text)) [ true ↦ omega arith | false ↦ omega arith ]
 
 line_length_some : (c : ℕ) (text : List ℕ) → 0 < line_length (c ∷ text)
 unfolding line_length
@@ -86,15 +81,11 @@ line_length_later text place within other =
 
 -- ---- a line without its end
 
-second : (a b : Bool) → (a && b) ≡ true → b ≡ true
-second true b e = e
-second false b e = cc
-
 -- a line's end ends in a line feed
 end_feeds : (line : List ℕ) → is_line_end line ≡ true → (front : List ℕ) × (line ≡ front ++ 10 ∷ [])
 end_feeds [] e = cc
 end_feeds (a ∷ []) e = ([], ap (λ v. v ∷ []) (eqb-true a 10 e))
-end_feeds (a ∷ b ∷ []) e = (a ∷ [], ap (λ v. a ∷ v ∷ []) (eqb-true b 10 (second (eqb a 13) (eqb b 10) e)))
+end_feeds (a ∷ b ∷ []) e = (a ∷ [], ap (λ v. a ∷ v ∷ []) (eqb-true b 10 (and_parts (eqb a 13) (eqb b 10) e).1))
 end_feeds (a ∷ b ∷ c ∷ rest) e = cc
 
 keep_step : (b : Bool) (x : ℕ) (xs ys : List ℕ) → (b ≡ true → ⊥) → ys ≡ xs → cond b [] (x ∷ ys) ≡ x ∷ xs
@@ -116,11 +107,7 @@ long_end a b c (x ∷ xs) ys = refl
 pub without_end_feed : (line : List ℕ) → ((front : List ℕ) → line ≡ front ++ 13 ∷ [] → ⊥) → without_end (line ++ 10 ∷ []) ≡ line
 unfolding without_end
 without_end_feed [] never = refl
-without_end_feed (x ∷ []) never = keep_step (eqb x 13 && true) x [] [] (λ e. never [] (ap (λ v. v ∷ []) (eqb-true x 13 (first (eqb x 13) true e)))) refl
-  where
-    first : (a b : Bool) → (a && b) ≡ true → a ≡ true
-    first true b e = refl
-    first false b e = cc
+without_end_feed (x ∷ []) never = keep_step (eqb x 13 && true) x [] [] (λ e. never [] (ap (λ v. v ∷ []) (eqb-true x 13 (and_parts (eqb x 13) true e).0))) refl
 without_end_feed (x ∷ y ∷ xs) never = keep_step (is_line_end (x ∷ y ∷ (xs ++ 10 ∷ []))) x (y ∷ xs) (without_end (y ∷ (xs ++ 10 ∷ []))) (λ e. let long : is_line_end (x ∷ y ∷ (xs ++ 10 ∷ [])) ≡ false = long_end x y 10 xs [] in cc) (without_end_feed (y ∷ xs) (λ front e. never (x ∷ front) (ap (λ v. x ∷ v) e)))
 
 -- the end of a line that ends in a carriage return and a line feed
@@ -134,15 +121,6 @@ without_end_return (x ∷ y ∷ xs) = keep_step (is_line_end (x ∷ y ∷ (xs ++
 pub without_end_cases : (line : List ℕ) (ended : Bor (List ℕ)) (found : Option (Bor (List ℕ))) → line ≡ ended.now ++ 10 ∷ [] → MatchOption found ((front : List ℕ) → ended.now ≡ front ++ 13 ∷ [] → ⊥) (λ text. ended.now ≡ text.now ++ 13 ∷ []) → (unwrap_or found ended).now ≡ without_end line
 without_end_cases line ended None e none = sym (ap without_end e ∙ without_end_feed ended.now none)
 without_end_cases line ended (Some text) e some = sym (ap without_end (e ∙ ap (λ v. v ++ 10 ∷ []) some ∙ append_assoc text.now (13 ∷ []) (10 ∷ [])) ∙ without_end_return text.now)
-
-shorter_step : (b : Bool) (x : ℕ) (xs ys : List ℕ) → length ys ≤ length xs → length (cond b [] (x ∷ ys)) ≤ suc (length xs)
-shorter_step true x xs ys h = omega arith
-shorter_step false x xs ys h = omega arith
-
-pub without_end_le : (line : List ℕ) → length (without_end line) ≤ length line
-unfolding without_end
-without_end_le [] = omega arith
-without_end_le (x ∷ xs) = shorter_step (is_line_end (x ∷ xs)) x xs (without_end xs) (without_end_le xs)
 
 -- ---- the lines together
 

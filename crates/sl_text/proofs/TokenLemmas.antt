@@ -1,5 +1,5 @@
 -- Lemmas on the tokens of a line.
-use Rattle.std.proofs.Common.{◌≡◌, ℕ, zero, suc, ◌+◌, ◌-◌, ◌<◌, ◌≤◌, Bool, true, false, cond, not, ◌||◌, List, [], ◌∷◌, ◌++◌, length, take, drop, get_or, nat_eq, refl, sym, ap, ◌∙◌, inl, inr, subst, arith, codes, IsUtf8, IsCharBoundary, encode_utf8, encode_utf8_all, take-append-drop, append_assoc, drop_of_length-le, add-zero, slice_index, drop-cons, All, length-take, Option, Some, None}
+use Rattle.std.proofs.Common.{◌≡◌, ℕ, zero, suc, ◌+◌, ◌-◌, ◌<◌, ◌≤◌, Bool, true, false, cond, not, List, [], ◌∷◌, ◌++◌, length, take, drop, get_or, nat_eq, refl, sym, ap, ◌∙◌, inl, inr, subst, arith, codes, IsUtf8, IsCharBoundary, encode_utf8, encode_utf8_all, drop_of_length-le, add-zero, slice_index, drop-cons, All, length-take, Option, Some, None}
 use Rattle.std.proofs.lemmas.Bool.Decides.{nat_tests}
 use Rattle.std.proofs.lemmas.Iterator.{YieldsList}
 use Rattle.std.proofs.lemmas.Iterator.Consumers.{YieldsList-from_shown}
@@ -15,7 +15,9 @@ use Rattle.sl_text.specs.Tokens.{shape, blanks_before, IsFirst, GivesToken, toke
 use Rattle.sl_text.specs.declared.token.Token.{Token}
 use Rattle.sl_text.specs.declared.token.Tokens.{Tokens}
 use Rattle.sl_text.proofs.LineLemmas.{Ends, ends_later, ends_boundary}
-use Rattle.sl_text.proofs.WordLemmas.{starts_front, front_starts, both}
+use Rattle.std.proofs.lemmas.Bool.{and_parts}
+use Rattle.sl_laws.proofs.Texts.{begin_word, digit_alphanumeric, first_token-block, starts_front, starts_take}
+use Rattle.std.proofs.lemmas.Bool.{not-true, or_parts}
 
 -- ---- runs of bytes that pass a test
 
@@ -60,12 +62,6 @@ digit_ascii c h = grind (arith, nat_tests)
 begin_ascii : (c : ℕ) → begins_word c ≡ true → c < 128
 begin_ascii c h = grind (arith, nat_tests)
 
-digit_alphanumeric : (c : ℕ) → is_ascii_digit c ≡ true → is_ascii_alphanumeric c ≡ true
-digit_alphanumeric c h = grind (arith, nat_tests)
-
-begin_word : (c : ℕ) → begins_word c ≡ true → is_word_byte c ≡ true
-begin_word c h = grind (arith, nat_tests)
-
 blank_ascii : (c : ℕ) → is_blank c ≡ true → c < 128
 blank_ascii c h = grind (arith, nat_tests)
 
@@ -99,17 +95,13 @@ unfolding comment_length
 comment_some [] some = absurd (omega arith)
 comment_some (c ∷ text) some = elim (starts_with nat_eq (c ∷ text) (codes "*/")) as (λ b. 0 < cond b 2 (suc (comment_length text))) [ true ↦ omega arith | false ↦ omega arith ]
 
-neither : (a b : Bool) → (a || b) ≡ false → b ≡ false
-neither true b e = cc
-neither false b e = e
-
 ended_holds : (text rest : List ℕ) → text ≡ 42 ∷ 47 ∷ rest → holds (codes "*/") (take 2 text) ≡ true
 unfolding holds
 ended_holds text rest e = ap (λ t. holds (codes "*/") (take 2 t)) e
 
 open_step : (c : ℕ) (text : List ℕ) (b : Bool) → starts_with nat_eq (c ∷ text) (codes "*/") ≡ b → (holds (codes "*/") (take (comment_length text) text) ≡ false → comment_length text ≡ length text) → holds (codes "*/") (take (cond b 2 (suc (comment_length text))) (c ∷ text)) ≡ false → cond b 2 (suc (comment_length text)) ≡ suc (length text)
 unfolding holds
-open_step c text false is rest e = ap suc (rest (neither (starts_with nat_eq (c ∷ take (comment_length text) text) (codes "*/")) (holds (codes "*/") (take (comment_length text) text)) e))
+open_step c text false is rest e = ap suc (rest (or_parts (starts_with nat_eq (c ∷ take (comment_length text) text) (codes "*/")) (holds (codes "*/") (take (comment_length text) text)) e).1)
 open_step c text true is rest e =
     let front = starts_front (codes "*/") (c ∷ text) is in
     let ended : holds (codes "*/") (take 2 (c ∷ text)) ≡ true = ended_holds (c ∷ text) front.0 front.1 in
@@ -206,25 +198,11 @@ shape_length comments true text utf8 some = record { some = comment_some text so
 
 -- ---- what stands behind a token that leaves a comment open
 
-not_true : (b : Bool) → not b ≡ true → b ≡ false
-not_true true e = sym e
-not_true false e = refl
-
-starts_take : (word text : List ℕ) (n : ℕ) → starts_with nat_eq (take n text) word ≡ true → starts_with nat_eq text word ≡ true
-starts_take word text n e =
-    let rest = starts_front word (take n text) e in
-    let whole : text ≡ word ++ (rest.0 ++ drop n text) = sym (take-append-drop n text) ∙ ap (λ v. v ++ drop n text) rest.1 ∙ append_assoc word rest.0 (drop n text) in
-    subst (λ t. starts_with nat_eq t word ≡ true) (sym whole) (front_starts word (rest.0 ++ drop n text))
-
 open_block : (rest : List ℕ) (m : ℕ) → m ≡ comment_length rest → holds (codes "*/") (take m rest) ≡ false → drop m rest ≡ []
 open_block rest m e never =
     let never' : holds (codes "*/") (take (comment_length rest) rest) ≡ false = subst (λ n. holds (codes "*/") (take n rest) ≡ false) e never in
     let whole : m ≡ length rest = e ∙ comment_open rest never' in
     drop_of_length-le rest (omega arith)
-
-first_token_block : (comments : Comments) (text : List ℕ) → starts_with nat_eq text (codes "/*") ≡ true → first_token comments text ≡ (Comment, comment_length (drop 2 text) + 2)
-unfolding first_token
-first_token_block comments text begins = rw begins
 
 -- a block comment that is begun and left open
 begun_open : (text rest : List ℕ) → text ≡ 47 ∷ 42 ∷ rest → holds (codes "*/") (drop 2 (take (comment_length (drop 2 text) + 2) text)) ≡ false → drop (comment_length (drop 2 text) + 2) text ≡ []
@@ -239,16 +217,16 @@ begun_open text rest e never =
 first_open : (comments : Comments) (text : List ℕ) → leaves_open false (take (first_token comments text).1 text) ≡ true → drop (first_token comments text).1 text ≡ []
 first_open comments text e =
     let n = (first_token comments text).1 in
-    let tests = both (starts_with nat_eq (take n text) (codes "/*")) (not (holds (codes "*/") (drop 2 (take n text)))) e in
+    let tests = and_parts (starts_with nat_eq (take n text) (codes "/*")) (not (holds (codes "*/") (drop 2 (take n text)))) e in
     let begins : starts_with nat_eq text (codes "/*") ≡ true = starts_take (codes "/*") text n tests.0 in
-    let size : n ≡ comment_length (drop 2 text) + 2 = ap (λ found. found.1) (first_token_block comments text begins) in
-    let never : holds (codes "*/") (drop 2 (take (comment_length (drop 2 text) + 2) text)) ≡ false = ap (λ k. holds (codes "*/") (drop 2 (take k text))) (sym size) ∙ not_true (holds (codes "*/") (drop 2 (take n text))) tests.1 in
+    let size : n ≡ comment_length (drop 2 text) + 2 = ap (λ found. found.1) (first_token-block comments text begins) in
+    let never : holds (codes "*/") (drop 2 (take (comment_length (drop 2 text) + 2) text)) ≡ false = ap (λ k. holds (codes "*/") (drop 2 (take k text))) (sym size) ∙ not-true (holds (codes "*/") (drop 2 (take n text))) tests.1 in
     let front = starts_front (codes "/*") text begins in
     ap (λ k. drop k text) size ∙ begun_open text front.0 front.1 never
 
 -- behind such a token stands nothing
 pub open_rest : (comments : Comments) (inside : Bool) (text : List ℕ) → leaves_open inside (take (shape comments inside text).1 text) ≡ true → drop (shape comments inside text).1 text ≡ []
-open_rest comments true text e = open_block text (comment_length text) refl (not_true (holds (codes "*/") (take (comment_length text) text)) e)
+open_rest comments true text e = open_block text (comment_length text) refl (not-true (holds (codes "*/") (take (comment_length text) text)) e)
 open_rest comments false text e = first_open comments text e
 
 -- ---- the tokens that are left
@@ -425,13 +403,6 @@ comment_length_later text place within goes =
     let next : suc place ≡ place + 1 = omega arith in
     let more : suc (comment_length (drop (suc place) text)) ≡ comment_length (drop (suc place) text) + 1 = omega arith in
     ap comment_length front ∙ ap (λ b. cond b 2 (suc (comment_length (drop (suc place) text)))) goes' ∙ more ∙ ap (λ n. comment_length (drop n text) + 1) next
-
-pub comment_length_le : (text : List ℕ) → comment_length text ≤ length text
-comment_length_le text = within (comment_length text) (comment_ends text)
-  where
-    within : (n : ℕ) → Ends text n → n ≤ length text
-    within n (inl e) = omega arith
-    within n (inr at) = let place : n ≡ at.0 + 1 = at.1.place in let below : at.0 < length text = at.1.within in omega arith
 
 pub comment_length-nil : comment_length [] ≡ 0
 unfolding comment_length

@@ -1,26 +1,12 @@
 -- Lemmas on words in a text.
-use Rattle.std.proofs.Common.{◌≡◌, ℕ, ◌+◌, Bool, true, false, ◌&&◌, ◌||◌, ◌↔◌, List, [], ◌∷◌, ◌++◌, length, drop, nat_eq, eqb, refl, sym, ap, ◌∙◌, subst, eq-eqb, eqb-true, codes, drop-drop}
+use Rattle.std.proofs.Common.{◌≡◌, ℕ, ◌+◌, Bool, true, false, ◌&&◌, ◌||◌, ◌↔◌, List, [], ◌∷◌, ◌++◌, length, drop, nat_eq, eqb, refl, sym, ap, ◌∙◌, subst, codes, drop-drop}
 use Rattle.std.specs.List.{starts_with}
 use Rattle.std.specs.Str.Iter.{HasSubslice}
 use Rattle.sl_model.specs.Text.{holds, is_quiet, skip_blanks, is_marker}
+use Rattle.std.proofs.lemmas.Bool.{or_right}
+use Rattle.sl_laws.proofs.Texts.{front_starts, starts_front}
 
 -- ---- a word at a text's start
-
-pub both : (a b : Bool) → (a && b) ≡ true → (a ≡ true) × (b ≡ true)
-both true b e = (refl, e)
-both false b e = cc
-
-pub starts_front : (word text : List ℕ) → starts_with nat_eq text word ≡ true → (rest : List ℕ) × (text ≡ word ++ rest)
-starts_front [] text e = (text, refl)
-starts_front (x ∷ word) [] e = cc
-starts_front (x ∷ word) (c ∷ text) e =
-    let tests = both (eqb x c) (starts_with nat_eq text word) e in
-    let rest = starts_front word text tests.1 in
-    (rest.0, ap (λ v. v ∷ text) (sym (eqb-true x c tests.0)) ∙ ap (λ v. x ∷ v) rest.1)
-
-pub front_starts : (word rest : List ℕ) → starts_with nat_eq (word ++ rest) word ≡ true
-front_starts [] rest = refl
-front_starts (x ∷ word) rest = ap (λ b. b && starts_with nat_eq (word ++ rest) word) (eq-eqb x x refl) ∙ front_starts word rest
 
 -- a text starts with two words where it starts with one and goes on with the other
 pub starts-append : (text word more : List ℕ) → starts_with nat_eq text (word ++ more) ≡ (starts_with nat_eq text word && starts_with nat_eq (drop (length word) text) more)
@@ -29,10 +15,6 @@ starts-append [] (x ∷ word) more = refl
 starts-append (c ∷ text) (x ∷ word) more = elim (eqb x c) as (λ b. (b && starts_with nat_eq text (word ++ more)) ≡ ((b && starts_with nat_eq text word) && starts_with nat_eq (drop (length word) text) more)) [ true ↦ starts-append text word more | false ↦ refl ]
 
 -- ---- a word somewhere in a text
-
-either : (a b : Bool) → b ≡ true → (a || b) ≡ true
-either true b e = refl
-either false b e = e
 
 one_of : (P : Type 0) (a b : Bool) → (a ≡ true → P) → (b ≡ true → P) → (a || b) ≡ true → P
 one_of P true b left right e = left refl
@@ -53,7 +35,7 @@ holds_here word (c ∷ text) e = ap (λ b. b || holds word text) e
 found_holds : (word front rest : List ℕ) → holds word (front ++ (word ++ rest)) ≡ true
 unfolding holds
 found_holds word [] rest = holds_here word (word ++ rest) (front_starts word rest)
-found_holds word (c ∷ front) rest = either (starts_with nat_eq (c ∷ (front ++ (word ++ rest))) word) (holds word (front ++ (word ++ rest))) (found_holds word front rest)
+found_holds word (c ∷ front) rest = or_right (starts_with nat_eq (c ∷ (front ++ (word ++ rest))) word) (holds word (front ++ (word ++ rest))) (found_holds word front rest)
 
 same_test : (a b : Bool) → (a ≡ true → b ≡ true) → (b ≡ true → a ≡ true) → a ≡ b
 same_test true b to from = sym (to refl)

@@ -34,8 +34,8 @@ pub record IsMarkerAt (label : List ℕ) (first : ℕ) (text : List ℕ)
 abbrev pub numbers_in : List ℕ → List ℕ → List ℕ
 numbers_in label text = marker_numbers label 1 (whole_lines text)
 
--- The only number of a list. Where there is none, the refusal for that; where there are more, `Twice`
--- at the second.
+-- The only number of a list. Where there is none, the refusal for that; where there
+-- are more, `Twice` at the second.
 abbrev pub only_number : CutRefusal → List ℕ → Result ℕ CutRefusal
 only_number absent [] = Err absent
 only_number absent (number ∷ []) = Ok number

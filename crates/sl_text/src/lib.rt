@@ -3,6 +3,7 @@
 #![tactic(auto)]
 
 pub mod cut;
+pub mod digits;
 pub mod line;
 mod marker;
 mod scan;
@@ -10,11 +11,9 @@ pub mod text;
 pub mod token;
 
 pub use cut::{Cut, cut_region};
+pub use digits::{Numeral, decimal_value, digit_of, digits_value, number_value};
 pub use line::{Line, Lines};
 pub use scan::tokens;
 pub use sl_model::text::{Comments, CutRefusal, TokenKind};
 pub use text::{NotText, holds, lines, split_line, text_of, without_end};
 pub use token::{Token, Tokens};
-
-#[cfg(test)]
-mod tests;

@@ -15,6 +15,54 @@ pub struct Token<'a> {
     pub start: u32,
 }
 
+impl Token<'_> {
+    ghost use Rattle.std.specs.Prelude.{◌≡◌};
+    ghost use Rattle.sl_model.specs.TokenTests as tests;
+    ghost use Rattle.sl_text.specs.Tokens.{token_value};
+
+    /// Is it a word?
+    pub fn is_word(&self) -> bool
+        ensures { result ≡ tests.is_word self.now.kind }
+    {
+        self.kind == TokenKind::Word
+    }
+
+    /// Is it a comment?
+    pub fn is_comment(&self) -> bool
+        ensures { result ≡ tests.is_comment self.now.kind }
+    {
+        self.kind == TokenKind::Comment
+    }
+
+    /// Its first byte, which is the code of a mark of ASCII; 0 where it has no text.
+    pub fn code(&self) -> u8
+        ensures { result ≡ tests.code_of (token_value self.now) }
+    {
+        let bytes = self.text.as_bytes();
+        if bytes.is_empty() {
+            return 0;
+        }
+        bytes[0]
+    }
+
+    /// Is it the mark with a code?
+    pub fn is_mark(&self, code: u8) -> bool
+        ensures { result ≡ tests.marks code (token_value self.now) }
+    {
+        match self.kind {
+            TokenKind::Mark => self.code() == code,
+            _ => false,
+        }
+    }
+
+    /// Does it stand directly behind another token of its line, with no blank between?
+    pub fn touches(&self, before: &Token<'_>) -> bool
+        ensures { result ≡ tests.touches (token_value before.now) (token_value self.now) }
+    {
+        self.start as usize <= before.start as usize + before.text.len()
+    }
+}
+
 /// The tokens of a line, made by [`tokens`](crate::tokens).
 #[derive(Clone, Copy, Debug)]
 pub struct Tokens<'a> {

@@ -10,7 +10,7 @@ use Rattle.slothy_cli.specs.declared.status.Status.TheVariants as statuses
 use Rattle.slothy_cli.specs.declared.status.Ending.{Ending}
 use Rattle.slothy_cli.specs.declared.status.Ending.TheVariants as endings
 use Rattle.slothy_cli.specs.Command.{Task, cost, opt, emulate, Command, wants_of}
-use Rattle.sl_isa.specs.Arch.{Language}
+use Rattle.sl_isa.specs.Language.{Language}
 use Rattle.asm_reader.specs.Reading.{Region}
 use Rattle.slothy_cli.specs.Outcome.{file_region, TaskAnswers, Bytes, CommandAnswers}
 use Rattle.slothy_cli.specs.Messages.{status_of, stop_status}

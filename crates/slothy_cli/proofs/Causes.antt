@@ -6,7 +6,7 @@ use Rattle.std.proofs.lemmas.Bool.Decides.{nat_tests}
 use Rattle.sl_model.specs.declared.instruction.Instr.{Instr}
 use Rattle.sl_model.specs.declared.text.CutRefusal.TheVariants as cuts
 use Rattle.sl_model.specs.Text.{bad_line}
-use Rattle.sl_isa.specs.Arch.{Language}
+use Rattle.sl_isa.specs.Language.{Language}
 use Rattle.sl_base.specs.Faults.{HasRisen}
 use Rattle.sl_base.specs.Reading.{MatchReadErr}
 use Rattle.sl_base.specs.declared.reading.ReadErr.{ReadErr}
@@ -27,12 +27,15 @@ use Rattle.slothy_cli.specs.declared.stop.Failure.TheVariants as failures
 use Rattle.slothy_cli.specs.declared.status.Ending.{Ending}
 use Rattle.slothy_cli.specs.declared.status.Ending.TheVariants as endings
 use Rattle.slothy_cli.specs.Command.{opt, emulate, Command, wants_of}
-use Rattle.slothy_cli.specs.Outcome.{◌>>=◌, sized, text_or, text_from, stop_at, region_or, region_from, file_region, state_or, run_answer, TaskAnswers, Bytes, CommandAnswers}
+use Rattle.sl_model.specs.ResultSteps.{◌>>=◌}
+use Rattle.slothy_cli.specs.Outcome.{sized, text_or, text_from, stop_at, region_or, region_from, file_region, state_or, run_answer, TaskAnswers, Bytes, CommandAnswers}
 use Rattle.slothy_cli.specs.Ending.{FilesRun, AreOf, Known, name_read, AreTold, HasText, HasStop, HasCause, is_file_limit, file_of}
 use Rattle.slothy_cli.specs.Parts.{RunStop, RunCause, RegionText, RegionStop, RegionCause}
-use Rattle.slothy_cli.specs.Shown.{Fails, unread_ending, failed_ending}
+use Rattle.sl_model.specs.Answers.{Refuses, RefusesBy}
+use Rattle.slothy_cli.specs.Shown.{unread_ending, failed_ending, stop_told}
 use Rattle.slothy_cli.proofs.Items.{sized_within}
 use Rattle.slothy_cli.proofs.Telling.{risen_before}
+use Rattle.sl_model.specs.declared.limits.TheConstants.{FILE_BYTES}
 
 -- An answer isn't that a file is too long.
 abbrev pub IsOfLines : {A : Type 0} → Result A Stop → Type 0
@@ -59,7 +62,7 @@ region_of_lines : (r : Result Region Refusal) → IsOfLines (region_or r)
 region_of_lines (Ok region) = tt
 region_of_lines (Err refusal) = stop_at_of_lines refusal.line refusal.reason
 
-file_region_of_lines : (language : Language) (wants : Wants) (bytes : List ℕ) → length bytes ≤ 1048576 → IsOfLines (file_region language wants bytes)
+file_region_of_lines : (language : Language) (wants : Wants) (bytes : List ℕ) → length bytes ≤ FILE_BYTES → IsOfLines (file_region language wants bytes)
 unfolding file_region
 file_region_of_lines language wants bytes h =
     bind_of_lines (sized which.Input bytes) (λ whole. text_from which.Input whole >>= λ text. region_from language wants text)
@@ -70,7 +73,7 @@ state_of_lines : (r : Result (List ℕ) ℕ) → IsOfLines (state_or r)
 state_of_lines (Ok text) = tt
 state_of_lines (Err line) = refl
 
-run_of_lines : (language : Language) (items : List Instr) (bytes : List ℕ) → length bytes ≤ 1048576 → IsOfLines (run_answer language items bytes)
+run_of_lines : (language : Language) (items : List Instr) (bytes : List ℕ) → length bytes ≤ FILE_BYTES → IsOfLines (run_answer language items bytes)
 unfolding run_answer
 run_of_lines language items bytes h =
     bind_of_lines (sized which.State bytes) (λ whole. text_from which.State whole >>= λ text. state_or (run_text language.isa items text))
@@ -94,7 +97,7 @@ state_is_of : (r : Result (List ℕ) ℕ) → IsOf which.State (state_or r)
 state_is_of (Ok text) = tt
 state_is_of (Err line) = refl
 
-run_is_of : (language : Language) (items : List Instr) (bytes : List ℕ) → length bytes ≤ 1048576 → IsOf which.State (run_answer language items bytes)
+run_is_of : (language : Language) (items : List Instr) (bytes : List ℕ) → length bytes ≤ FILE_BYTES → IsOf which.State (run_answer language items bytes)
 unfolding run_answer
 run_is_of language items bytes h =
     bind_is_of which.State (sized which.State bytes) (λ whole. text_from which.State whole >>= λ text. state_or (run_text language.isa items text))
@@ -113,23 +116,23 @@ region_stop : (language : Language) (wants : Wants) (bytes : List ℕ) (r : Resu
 region_stop language wants bytes (Ok region) stop h e = absurd (cc)
 region_stop language wants bytes (Err other) stop h e = let same : other ≡ stop = cc in ap is_file_limit (sym same) ∙ h
 
-above_limit : (n : ℕ) → 1048576 < n → nat_lt 1048576 n ≡ true
+above_limit : (n : ℕ) → FILE_BYTES < n → nat_lt FILE_BYTES n ≡ true
 above_limit n h = grind (arith, nat_tests)
 
-too_long_region : (language : Language) (wants : Wants) (bytes : List ℕ) → 1048576 < length bytes → file_region language wants bytes ≡ Err (TooLarge which.Input 0 quantities.File 1048576)
+too_long_region : (language : Language) (wants : Wants) (bytes : List ℕ) → FILE_BYTES < length bytes → file_region language wants bytes ≡ Err (TooLarge which.Input 0 quantities.File FILE_BYTES)
 unfolding file_region sized
 too_long_region language wants bytes h =
-    ap (λ b. cond b (Err (TooLarge which.Input 0 quantities.File 1048576)) (Ok bytes) >>= λ whole. text_from which.Input whole >>= λ text. region_from language wants text) (above_limit (length bytes) h)
+    ap (λ b. cond b (Err (TooLarge which.Input 0 quantities.File FILE_BYTES)) (Ok bytes) >>= λ whole. text_from which.Input whole >>= λ text. region_from language wants text) (above_limit (length bytes) h)
 
-too_long_state : (language : Language) (items : List Instr) (bytes : List ℕ) → 1048576 < length bytes → run_answer language items bytes ≡ Err (TooLarge which.State 0 quantities.File 1048576)
+too_long_state : (language : Language) (items : List Instr) (bytes : List ℕ) → FILE_BYTES < length bytes → run_answer language items bytes ≡ Err (TooLarge which.State 0 quantities.File FILE_BYTES)
 unfolding run_answer sized
 too_long_state language items bytes h =
-    ap (λ b. cond b (Err (TooLarge which.State 0 quantities.File 1048576)) (Ok bytes) >>= λ whole. text_from which.State whole >>= λ text. state_or (run_text language.isa items text)) (above_limit (length bytes) h)
+    ap (λ b. cond b (Err (TooLarge which.State 0 quantities.File FILE_BYTES)) (Ok bytes) >>= λ whole. text_from which.State whole >>= λ text. state_or (run_text language.isa items text)) (above_limit (length bytes) h)
 
 -- a file that is too long has that answer
-too_long : (language : Language) (c : Command) (bytes : Bytes) → 1048576 < length bytes.input → CommandAnswers language c bytes (Err (TooLarge which.Input 0 quantities.File 1048576))
+too_long : (language : Language) (c : Command) (bytes : Bytes) → FILE_BYTES < length bytes.input → CommandAnswers language c bytes (Err (TooLarge which.Input 0 quantities.File FILE_BYTES))
 too_long language c bytes h =
-    let answer : Result (List ℕ) Stop = Err (TooLarge which.Input 0 quantities.File 1048576) in
+    let answer : Result (List ℕ) Stop = Err (TooLarge which.Input 0 quantities.File FILE_BYTES) in
     let P : Result Region Stop → Type 0 = λ r. MatchResult r (λ region. TaskAnswers language c.task region bytes.state answer) (λ stop. answer ≡ Err stop) in
     subst P (sym (too_long_region language (wants_of c.task) bytes.input h)) refl
 
@@ -138,17 +141,17 @@ pub unread_cause : (language : Language) (c : Command) (known : Known) (files : 
     → MatchReadErr error (HasRisen files.faults_before files.faults_after) (λ _. ⊤)
     → MatchReadErr error (files.chosen ≡ c.name) (λ _. ⊤)
     → MatchReadErr error (files.broken ≡ true) (λ _. ⊤)
-    → MatchReadErr error ⊤ (λ _. 1048576 < files.given)
+    → MatchReadErr error ⊤ (λ _. FILE_BYTES < files.given)
     → MatchReadErr error ⊤ (λ _. files.chosen ≡ c.name)
-    → ((bytes : List ℕ) → known.input ≡ Some bytes → MatchReadErr error ⊤ (λ _. 1048576 < length bytes))
+    → ((bytes : List ℕ) → known.input ≡ Some bytes → MatchReadErr error ⊤ (λ _. FILE_BYTES < length bytes))
     → HasCause language c known files (unread_ending which.Input error)
 unread_cause language c known files errors.ReadFault risen chosen broken given long told = (risen, ap Some (sym chosen), broken)
 unread_cause language c known files (errors.TooLong limit) risen chosen broken given long told =
     (ap Some (sym long), given, λ (bytes : Bytes) (e : known.input ≡ Some bytes.input). too_long language c bytes (told bytes.input e))
 unread_cause language c known files errors.NoMemory risen chosen broken given long told = tt
 
-told_state : (language : Language) (items : List Instr) (known : Option (List ℕ)) → ((bytes : List ℕ) → known ≡ Some bytes → 1048576 < length bytes)
-    → IfSome known (λ state. run_answer language items state ≡ Err (TooLarge which.State 0 quantities.File 1048576))
+told_state : (language : Language) (items : List Instr) (known : Option (List ℕ)) → ((bytes : List ℕ) → known ≡ Some bytes → FILE_BYTES < length bytes)
+    → IfSome known (λ state. run_answer language items state ≡ Err (TooLarge which.State 0 quantities.File FILE_BYTES))
 told_state language items None h = tt
 told_state language items (Some bytes) h = too_long_state language items bytes (h bytes refl)
 
@@ -157,9 +160,9 @@ pub unread_state : (language : Language) (items : List Instr) (known : Option (L
     → MatchReadErr error (HasRisen files.faults_before files.faults_after) (λ _. ⊤)
     → MatchReadErr error (files.chosen ≡ name) (λ _. ⊤)
     → MatchReadErr error (files.broken ≡ true) (λ _. ⊤)
-    → MatchReadErr error ⊤ (λ _. 1048576 < files.given)
+    → MatchReadErr error ⊤ (λ _. FILE_BYTES < files.given)
     → MatchReadErr error ⊤ (λ _. files.chosen ≡ name)
-    → ((bytes : List ℕ) → known ≡ Some bytes → MatchReadErr error ⊤ (λ _. 1048576 < length bytes))
+    → ((bytes : List ℕ) → known ≡ Some bytes → MatchReadErr error ⊤ (λ _. FILE_BYTES < length bytes))
     → RunCause language items known name files (unread_ending which.State error)
 unread_state language items known name files errors.ReadFault risen chosen broken given long told = (refl, risen, chosen, broken)
 unread_state language items known name files (errors.TooLong limit) risen chosen broken given long told = (refl, (long, given, told_state language items known told))
@@ -179,7 +182,7 @@ run_stop_cause language items known name files (Infeasible most) f e h = (f, h)
 
 -- why a run gives no text of a state file that was read
 pub unanswered_run : (language : Language) (items : List Instr) (known : Option (List ℕ)) (name : List ℕ) (files : FilesRun) (bytes : List ℕ) (failure : Failure)
-    → length bytes ≤ 1048576 → ((told : List ℕ) → known ≡ Some told → bytes ≡ told) → Fails failure (run_answer language items bytes)
+    → length bytes ≤ FILE_BYTES → ((told : List ℕ) → known ≡ Some told → bytes ≡ told) → Refuses (stop_told failure) (run_answer language items bytes)
     → RunCause language items known name files (failed_ending failure)
 unanswered_run language items known name files bytes (failures.Stopped stop) short told e =
     run_stop_cause language items known name files stop
@@ -206,14 +209,9 @@ region_of_run language name turns region known files endings.Done h = h
 region_of_run language name turns region known files endings.Usage h = h
 region_of_run language name turns region known files (endings.WriteFault sent) h = h
 
--- what a function settles of a failure
-abbrev pub SettlesFailure : Failure → (Result (List ℕ) Stop → Type 0) → Type 0
-SettlesFailure (failures.Stopped stop) IsAnswer = IsAnswer (Err stop)
-SettlesFailure failures.NoMemory IsAnswer = Unit {0}
-
 -- why the best schedule gives no text
 pub unanswered_opt : (language : Language) (latency : ℕ) (region : Region) (files : FilesRun) (failure : Failure)
-    → SettlesFailure failure (λ answer. TaskAnswers language (opt latency) region [] answer) → RegionCause language (opt latency) region (Some []) files (failed_ending failure)
+    → RefusesBy (stop_told failure) (λ answer. TaskAnswers language (opt latency) region [] answer) → RegionCause language (opt latency) region (Some []) files (failed_ending failure)
 unanswered_opt language latency region files (failures.Stopped stop) e =
     subst (λ s. RegionCause language (opt latency) region (Some []) files (endings.Stopped s)) (sym e.0)
     (record { state = []; state_of_file = refl; answers = subst (λ s. TaskAnswers language (opt latency) region [] (Err s)) e.0 e })
@@ -242,7 +240,7 @@ answers_task language c state (Err other) region answer e a = absurd (cc)
 
 -- why a file without a region ends the call
 pub unanswered_cause : (language : Language) (c : Command) (known : Known) (files : FilesRun) (bytes : List ℕ) (failure : Failure)
-    → length bytes ≤ 1048576 → AreOf known.input bytes → Fails failure (file_region language (wants_of c.task) bytes) → HasCause language c known files (failed_ending failure)
+    → length bytes ≤ FILE_BYTES → AreOf known.input bytes → Refuses (stop_told failure) (file_region language (wants_of c.task) bytes) → HasCause language c known files (failed_ending failure)
 unanswered_cause language c known files bytes (failures.Stopped stop) short told e =
     let state = some_state known.state in
     stop_cause language c known files stop (region_stop language (wants_of c.task) bytes (file_region language (wants_of c.task) bytes) stop (file_region_of_lines language (wants_of c.task) bytes short) e)

@@ -1,4 +1,3 @@
-pub mod Latency
 pub mod Items
 pub mod PlainCosts
 pub mod OwnTimes
@@ -9,4 +8,3 @@ pub mod RegionItems
 pub mod OptChoices
 pub mod OptAnswer
 mod Parts
-pub mod Arm64Printed

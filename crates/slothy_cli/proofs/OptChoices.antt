@@ -1,7 +1,7 @@
 -- The choices of a legal schedule of the problem of `opt`.
 use Rattle.std.proofs.Common.{◌≡◌, ℕ, ◌^◌, ◌<◌, ◌≤◌, true, false, nat_lt, List, [], ◌∷◌, length, refl, sym, ap, ◌∙◌, ⊎_elim, true≢false, arith, lt-ltb}
 use Rattle.std.specs.List.{list_all}
-use Rattle.std.proofs.lemmas.Bool.{cases_lt, not-true}
+use Rattle.std.proofs.lemmas.Bool.{cases_lt, not-true, and_from}
 use Rattle.std.proofs.lemmas.List.{get_or-replicate}
 use Rattle.sl_model.specs.declared.instruction.Instr.{Instr}
 use Rattle.sl_model.specs.declared.schedule.Choice.{Choice}
@@ -10,19 +10,16 @@ use Rattle.sl_model.specs.Cycles.{row_of}
 use Rattle.sl_model.specs.Isa.{Isa}
 use Rattle.sl_model.specs.Body.{is_placed}
 use Rattle.sl_model.specs.Legal.{IsLegalFrom, IsFullLegal, keeps_l6, numbers_below}
-use Rattle.legal_space.proofs.Forced.{keeps_rules}
-use Rattle.legal_space.proofs.ListingLemmas.{unplaced, unplaced-bound, unplaced-less}
-use Rattle.legal_space.proofs.Members.{length-numbers}
-use Rattle.legal_space.proofs.Units.{no_bit_past}
-use Rattle.renamer.proofs.OwnTests.{both}
-use Rattle.renamer.proofs.StraightNumbers.{below-lt}
+use Rattle.sl_laws.proofs.Rules.{keeps_rules}
+use Rattle.legal_space.proofs.ForCallers.{unplaced, unplaced-bound, unplaced-less, no_bit_past}
+use Rattle.sl_laws.proofs.Numbers.{length-numbers, below-lt}
 use Rattle.slothy_cli.specs.CostText.{region_problem}
 
 -- each choice is of an item
 known-from : (isa : Isa) (latency : ℕ) (items : List Instr) (done choices : List Choice) → IsLegalFrom isa (region_problem latency items) done choices → list_all (λ c. nat_lt c.item (length items)) choices ≡ true
 known-from isa latency items done [] legal = refl
 known-from isa latency items done (c ∷ choices) legal =
-    both (nat_lt c.item (length items)) (list_all (λ c. nat_lt c.item (length items)) choices)
+    and_from (nat_lt c.item (length items)) (list_all (λ c. nat_lt c.item (length items)) choices)
     (lt-ltb c.item (length items) (below-lt (length items) c.item legal.0.of.known))
     (known-from isa latency items (c ∷ done) choices legal.1)
 
@@ -47,7 +44,7 @@ unit-few latency items c within keeps =
 units-from : (isa : Isa) (latency : ℕ) (items : List Instr) (done choices : List Choice) → IsLegalFrom isa (region_problem latency items) done choices → list_all (λ c. nat_lt c.unit 16) choices ≡ true
 units-from isa latency items done [] legal = refl
 units-from isa latency items done (c ∷ choices) legal =
-    both (nat_lt c.unit 16) (list_all (λ c. nat_lt c.unit 16) choices)
+    and_from (nat_lt c.unit 16) (list_all (λ c. nat_lt c.unit 16) choices)
     (lt-ltb c.unit 16 (unit-few latency items c (below-lt (length items) c.item legal.0.of.known) (keeps_rules isa (region_problem latency items) done c legal.0.rules).l6))
     (units-from isa latency items (c ∷ done) choices legal.1)
 

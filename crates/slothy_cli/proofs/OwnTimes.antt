@@ -7,11 +7,8 @@ use Rattle.sl_model.specs.declared.instruction.Instr.{Instr}
 use Rattle.sl_model.specs.declared.schedule.Choice.{Choice}
 use Rattle.sl_model.specs.Cycles.{Issued, timed, cycles_of}
 use Rattle.sl_model.specs.Legal.{Problem, sources_in, numbers_below}
-use Rattle.legal_space.proofs.CycleLemmas.{length-cycles_of}
-use Rattle.legal_space.proofs.Members.{length-numbers}
-use Rattle.legal_space.proofs.StraightLemmas.{numbers-none, map_numbers-next}
-use Rattle.asm_printer.proofs.Listable.{all-below}
-use Rattle.asm_printer.proofs.WrittenRegion.{length-timed}
+use Rattle.sl_laws.proofs.Cycles.{length-cycles_of, length-timed}
+use Rattle.sl_laws.proofs.Numbers.{length-numbers, numbers-none, map_numbers-next, all-below}
 use Rattle.slothy_cli.specs.CostText.{region_problem, own_choice, own_schedule, own_times}
 
 -- none of the items, and one more

@@ -1,9 +1,9 @@
 -- The items of a region are fine: they are of the set, were read, and where that is asked each register is written once.
-use Rattle.std.proofs.Common.{◌≡◌, ℕ, zero, suc, ◌+◌, ◌<◌, ◌≤◌, Bool, true, false, not, ◌&&◌, ◌||◌, nat_lt, is_some, List, [], ◌∷◌, ◌++◌, length, reverse, slice_get, length-append, Option, None, Some, Result, Ok, Err, if◌then◌else◌, refl, sym, ap, ◌∙◌, subst, true≢false, ⊎_elim, arith, ltb-true}
+use Rattle.std.proofs.Common.{◌≡◌, ℕ, zero, suc, ◌+◌, ◌<◌, ◌≤◌, Bool, true, false, not, ◌&&◌, nat_lt, is_some, List, [], ◌∷◌, ◌++◌, length, reverse, slice_get, length-append, Option, None, Some, Result, Ok, Err, if◌then◌else◌, refl, sym, ap, ◌∙◌, subst, true≢false, ⊎_elim, arith, ltb-true}
 use Rattle.std.specs.List.{list_any}
 use Rattle.std.proofs.Math.ListN.{length-reverse}
 use Rattle.std.proofs.lemmas.List.{reverse-append}
-use Rattle.std.proofs.lemmas.Bool.{cases_lt}
+use Rattle.std.proofs.lemmas.Bool.{cases_lt, or_parts}
 use Rattle.sl_model.specs.declared.register.Reg.{Reg}
 use Rattle.sl_model.specs.declared.instruction.Instr.{Instr}
 use Rattle.sl_model.specs.declared.text.Comments.{Comments}
@@ -12,24 +12,26 @@ use Rattle.sl_model.specs.Source.{outputs, item_at, place_from, output_or, sourc
 use Rattle.sl_model.specs.Token.{Lexeme, tokens, open_behind}
 use Rattle.sl_model.specs.Text.{whole_lines, numbered_lines, without_end, cut}
 use Rattle.sl_model.specs.Isa.{Isa}
-use Rattle.sl_model.specs.Lawful.{IsValid}
+use Rattle.sl_model.specs.Lawful.{IsValid, AreValid}
 use Rattle.sl_isa.specs.declared.reasons.FormReason.{FormReason}
-use Rattle.sl_isa.specs.Arch.{Language, IsRead}
-use Rattle.renamer.specs.WellPosed.{AreValid}
-use Rattle.renamer.proofs.OrderState.{same_reg-refl}
-use Rattle.renamer.proofs.OwnTests.{list_any-at, place_from-at, place_from-none, place_from-differ}
+use Rattle.sl_isa.specs.Language.{Language, IsRead}
+use Rattle.sl_laws.proofs.Registers.{same_reg-refl, place_from-at, place_from-none, place_from-differ}
+use Rattle.sl_laws.proofs.Elements.{list_any-at}
 use Rattle.asm_reader.specs.declared.reasons.Wants.{Wants}
 use Rattle.asm_reader.specs.declared.reasons.Refusal.{Refusal}
 use Rattle.asm_reader.specs.declared.reasons.Reason.TheVariants.{NotYet}
 use Rattle.asm_reader.specs.Statements.{statements, words_of, has_note}
-use Rattle.asm_reader.specs.Views.{comments_of}
+use Rattle.sl_isa.specs.Arch.{comments_of}
+use Rattle.sl_model.specs.ResultSteps as steps
 use Rattle.asm_reader.specs.Reading as read
 use Rattle.asm_printer.specs.Printed.{off_line}
 use Rattle.asm_printer.specs.ReadBack.{WasRead, AreRead, AreLast}
 use Rattle.slothy_cli.specs.declared.stop.File.TheVariants as which
 use Rattle.slothy_cli.specs.declared.stop.Stop.{Stop}
-use Rattle.slothy_cli.specs.Outcome.{◌>>=◌, sized, text_from, region_or, file_region}
+use Rattle.sl_model.specs.ResultSteps.{◌>>=◌}
+use Rattle.slothy_cli.specs.Outcome.{sized, text_from, region_or, file_region}
 use Rattle.slothy_cli.specs.Fine.{AreFine}
+use Rattle.sl_laws.proofs.Valid.{valid-on_line}
 
 -- an item that no other one stands behind, and one before it
 item-before : (items : List Instr) (i : Instr) (p : ℕ) → p < length items → item_at (items ++ i ∷ []) p ≡ item_at items p
@@ -51,16 +53,8 @@ last-push items i r =
 -- a test of any item that fails, fails at each
 none-at : (p : Instr → Bool) (items : List Instr) (k : ℕ) → list_any p items ≡ false → k < length items → p (item_at items k) ≡ false
 none-at p [] k none within = absurd (omega arith)
-none-at p (i ∷ items) zero none within = or_left (p i) (list_any p items) none
-  where
-    or_left : (a b : Bool) → (a || b) ≡ false → a ≡ false
-    or_left true b e = e
-    or_left false b e = refl
-none-at p (i ∷ items) (suc k) none within = none-at p items k (or_right (p i) (list_any p items) none) (omega arith)
-  where
-    or_right : (a b : Bool) → (a || b) ≡ false → b ≡ false
-    or_right true b e = absurd (true≢false e)
-    or_right false b e = e
+none-at p (i ∷ items) zero none within = (or_parts (p i) (list_any p items) none).0
+none-at p (i ∷ items) (suc k) none within = none-at p items k (or_parts (p i) (list_any p items) none).1 (omega arith)
 
 -- a register that stands among some is found
 found : (r : Reg) (regs : List Reg) (place : ℕ) → slice_get regs place ≡ Some r → is_some (place_from 0 r regs) ≡ true
@@ -118,20 +112,6 @@ are_read-push : (reads : List Lexeme → Result Instr FormReason) (items : List 
 are_read-push reads [] i all was = (was, tt)
 are_read-push reads (x ∷ items) i all was = (all.0, are_read-push reads items i all.1 was)
 
--- an instruction is one of the set whatever its line
-valid-line : (isa : Isa) (i : Instr) (line : ℕ) → IsValid isa i → IsValid isa (record i { line = line })
-valid-line isa i line valid = record {
-  op = valid.op;
-  ins_shape = valid.ins_shape;
-  outs_shape = valid.outs_shape;
-  operand_count = valid.operand_count;
-  output_count = valid.output_count;
-  operand_classes = valid.operand_classes;
-  output_classes = valid.output_classes;
-  distinct = valid.distinct;
-  tied = valid.tied;
-}
-
 -- what one more item gives
 taken : (room again : Bool) (full twice : Refusal) (next more : List Instr) → (if not room then Err full else (if again then Err twice else Ok next)) ≡ Ok more → (room ≡ true) × (again ≡ false) × (next ≡ more)
 taken false again full twice next more e = absurd (cc)
@@ -139,7 +119,7 @@ taken true true full twice next more e = absurd (cc)
 taken true false full twice next more e = let same : next ≡ more = cc in (refl, refl, same)
 
 -- what a bound answer is, is what its last step gives
-bound : {A B : Type 0} (r : Result A Refusal) (f : A → Result B Refusal) (y : B) (P : Type 0) → ((x : A) → r ≡ Ok x → f x ≡ Ok y → P) → read.◌>>=◌ r f ≡ Ok y → P
+bound : {A B : Type 0} (r : Result A Refusal) (f : A → Result B Refusal) (y : B) (P : Type 0) → ((x : A) → r ≡ Ok x → f x ≡ Ok y → P) → steps.◌>>=◌ r f ≡ Ok y → P
 bound (Ok x) f y P go e = go x refl e
 bound (Err refusal) f y P go e = absurd (cc)
 
@@ -156,7 +136,7 @@ module _ (language : Language) (reads_valid : (words : List Lexeme) (i : Instr) 
       let so = taken (nat_lt (length items) wants.limit) (wants.once && read.writes_again items i) _ _ (items ++ j ∷ []) more e in
       let room : length items < wants.limit = ltb-true (length items) wants.limit so.0 in
       let off : i ≡ off_line j = ap (λ n. record i { line = n }) law.plain.3 in
-      let valid : IsValid language.isa j = valid-line language.isa i line law.valid in
+      let valid : IsValid language.isa j = valid-on_line language.isa i line law.valid in
       let result : AreFine language wants (items ++ j ∷ []) = record {
         few = omega (arith, length-append items (j ∷ []));
         valid = are_valid-push language.isa items j fine.valid valid;

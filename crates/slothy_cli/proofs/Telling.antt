@@ -26,10 +26,6 @@ joined-more view xs i d piece h e =
 joined-parts : {A : Type 0} (view : A → List ℕ) (xs : List A) (n : ℕ) → joined (map view xs) ≡ joined (map view (take n xs)) ++ joined (map view (drop n xs))
 joined-parts view xs n = ap (λ t. joined (map view t)) (sym (take-append-drop n xs)) ∙ ap joined (map-append view (take n xs) (drop n xs)) ∙ joined-append (map view (take n xs)) (map view (drop n xs))
 
-pub append_known-twice : (known : Option (List ℕ)) (a b : List ℕ) → append_known (append_known known a) b ≡ append_known known (a ++ b)
-append_known-twice None a b = refl
-append_known-twice (Some bytes) a b = ap Some (append_assoc bytes a b)
-
 -- a front of one text, behind those before it, is a front of all
 pub front_of_all : {A : Type 0} (view : A → List ℕ) (xs : List A) (i : ℕ) (d : A) (piece : List ℕ) (sent : ℕ) → i < length xs → piece ≡ view (get_or xs i d) → sent ≤ length piece
     → joined (map view (take i xs)) ++ take sent piece ≡ take (length (joined (map view (take i xs))) + sent) (joined (map view xs))

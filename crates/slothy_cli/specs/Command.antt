@@ -1,13 +1,15 @@
 -- What the words of a command ask for.
-use Rattle.std.specs.Prelude.{◌≤◌, ℕ, Bool, true, false, ◌+◌, ◌-◌, ◌*◌, ◌==◌, ◌&&◌, not, nat_eq, nat_le, List, [], ◌∷◌, drop, codes, Option, None, Some, if◌then◌else◌}
-use Rattle.std.specs.List.{starts_with, list_all}
+use Rattle.std.specs.Prelude.{◌≤◌, ℕ, Bool, true, false, ◌==◌, ◌&&◌, not, nat_eq, nat_le, List, [], ◌∷◌, drop, codes, Option, None, Some, if◌then◌else◌}
+use Rattle.std.specs.List.{starts_with}
 use Rattle.std.specs.Option.{option_map}
 use Rattle.std.specs.Str.{bytes_eq}
-use Rattle.std.specs.Char.{is_ascii_digit}
 use Rattle.asm_reader.specs.declared.reasons.Wants.{Wants}
+use Rattle.sl_model.specs.Digits.{decimal_number}
+use Rattle.sl_model.specs.OptionSteps.{◌>>=◌}
+use Rattle.sl_model.specs.declared.limits.TheConstants.{ITEMS, LISTED, TURNS}
 
--- What is to be done: the costs or the best schedule on a one-wide core of a latency, or a run from the state of a file, of so
--- many turns of a loop.
+-- What is to be done: the costs or the best schedule on a one-wide core of a latency, or a run from
+-- the state of a file, of so many turns of a loop.
 pub data Task : Type 0 where
   cost : ℕ → Task
   opt : ℕ → Task
@@ -18,23 +20,20 @@ pub record Command : Type 0 where
   pub task : Task
   pub name : List ℕ
 
--- the number that decimal digits spell, behind the digits of another number
-abbrev pub digits_from : ℕ → List ℕ → ℕ
-digits_from n [] = n
-digits_from n (c ∷ digits) = digits_from (10 * n + (c - 48)) digits
-
--- Do these spell a number from 1 on: digits alone, at least one, and the first isn't 0?
-abbrev pub is_counting : List ℕ → Bool
-is_counting [] = false
-is_counting (c ∷ digits) = not (c == 48) && list_all is_ascii_digit (c ∷ digits)
+-- a number from one to another
+abbrev pub between : ℕ → ℕ → ℕ → Option ℕ
+between least most n = if nat_le least n then (if nat_le n most then Some n else None) else None
 
 -- the latency that the digits behind `one:` give, from 1 to 255
 unfoldable pub latency_from : List ℕ → Option ℕ
-latency_from digits = if is_counting digits && nat_le (digits_from 0 digits) 255 then Some (digits_from 0 digits) else None
+latency_from digits = do
+  n ← decimal_number digits
+  between 1 255 n
 
 -- the latency of the core that a word `one:L` names
 unfoldable pub latency_of : List ℕ → Option ℕ
-latency_of word = if starts_with nat_eq word (codes "one:") then latency_from (drop 4 word) else None
+latency_of word =
+    if starts_with nat_eq word (codes "one:") then latency_from (drop 4 word) else None
 
 -- Is a word a file name: not empty, and no option?
 abbrev pub is_name : List ℕ → Bool
@@ -46,15 +45,11 @@ abbrev pub core_of : List (List ℕ) → Option ℕ
 core_of (option ∷ core ∷ []) = if bytes_eq option (codes "--core") then latency_of core else None
 core_of words = None
 
--- Do these spell a number: digits alone, and the first of several isn't 0?
-abbrev pub is_number : List ℕ → Bool
-is_number [] = false
-is_number (c ∷ []) = is_ascii_digit c
-is_number (c ∷ d ∷ digits) = is_counting (c ∷ d ∷ digits)
-
--- the number of turns, at most 10000000
+-- the number of turns
 unfoldable pub turns_of : List ℕ → Option ℕ
-turns_of digits = if is_number digits && nat_le (digits_from 0 digits) 10000000 then Some (digits_from 0 digits) else None
+turns_of digits = do
+  n ← decimal_number digits
+  between 0 TURNS n
 
 -- the name of a state file
 abbrev pub state_of : List ℕ → Option (List ℕ)
@@ -67,10 +62,14 @@ emulation state (Some turns) = option_map (λ name. emulate name turns) state
 
 -- what `--state STATE` asks for, and `--turns N` beside it, in either order
 abbrev pub run_of : List (List ℕ) → Option Task
-run_of (option ∷ value ∷ []) = if bytes_eq option (codes "--state") then emulation (state_of value) (Some 1000000) else None
+run_of (option ∷ value ∷ []) =
+    if bytes_eq option (codes "--state") then emulation (state_of value) (Some 1000000) else None
 run_of (first ∷ one ∷ second ∷ other ∷ []) =
-    if bytes_eq first (codes "--state") && bytes_eq second (codes "--turns") then emulation (state_of one) (turns_of other)
-    else (if bytes_eq first (codes "--turns") && bytes_eq second (codes "--state") then emulation (state_of other) (turns_of one) else None)
+    if bytes_eq first (codes "--state") && bytes_eq second (codes "--turns") then
+    emulation (state_of one) (turns_of other)
+    else (if bytes_eq first (codes "--turns") && bytes_eq second (codes "--state") then
+    emulation (state_of other) (turns_of one)
+    else None)
 run_of words = None
 
 -- what a mode asks for with its options
@@ -86,14 +85,16 @@ command_from name task = option_map (λ what. record { task = what; name = name 
 
 -- A mode, a name and options, behind the program's name; all other words are wrong use.
 unfoldable pub command_of : List (List ℕ) → Option Command
-command_of (program ∷ mode ∷ name ∷ options) = if is_name name then command_from name (task_of mode options) else None
+command_of (program ∷ mode ∷ name ∷ options) =
+    if is_name name then command_from name (task_of mode options) else None
 command_of words = None
 
--- what is wanted of a region: at most 64 items; by `opt` at most 8, which write each register once; notes aren't read yet
+-- what is wanted of a region: at most 64 items; by `opt` at most 8, which write each
+-- register once; notes aren't read yet
 abbrev pub wants_of : Task → Wants
-wants_of (cost latency) = record { limit = 64; once = false; no_notes = true }
-wants_of (opt latency) = record { limit = 8; once = true; no_notes = true }
-wants_of (emulate state turns) = record { limit = 64; once = false; no_notes = true }
+wants_of (cost latency) = record { limit = ITEMS; once = false; no_notes = true }
+wants_of (opt latency) = record { limit = LISTED; once = true; no_notes = true }
+wants_of (emulate state turns) = record { limit = ITEMS; once = false; no_notes = true }
 
 -- A latency is at least 1, where there is one.
 abbrev pub HasLatency : Task → Type 0

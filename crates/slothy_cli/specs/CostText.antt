@@ -8,16 +8,21 @@ use Rattle.sl_model.specs.Source.{item_at}
 use Rattle.sl_model.specs.Cycles.{CostTable, Issued, timed, cycle_count, cycles_of, stalls}
 use Rattle.sl_model.specs.Legal.{Problem, numbers_below, sources_in, written, straight_problem}
 
--- The core `one:L`: one unit takes an item in each cycle, keeps it for one, and each result is ready after L cycles.
+-- The core `one:L`: one unit takes an item in each cycle, keeps it for one, and each
+-- result is ready after L cycles.
 abbrev pub plain_row : ℕ → CostRow
-plain_row latency = record { class = 0; units = 1; busy = 1; latency = latency; writeback = latency; back = None }
+plain_row latency =
+    record { class = 0; units = 1; busy = 1; latency = latency; writeback = latency; back = None }
 
+-- the costs of the core `one:L` for so many items, which has no forwards
 abbrev pub plain_costs : ℕ → ℕ → CostTable
-plain_costs latency items = record { width = 1; rows = replicate items (plain_row latency); forwards = [] }
+plain_costs latency items =
+    record { width = 1; rows = replicate items (plain_row latency); forwards = [] }
 
 -- The problem of a region: all registers that it writes are live-out, and none is free.
 abbrev pub region_problem : ℕ → List Instr → Problem
-region_problem latency items = straight_problem items (written items) [] (plain_costs latency (length items))
+region_problem latency items =
+    straight_problem items (written items) [] (plain_costs latency (length items))
 
 -- an item where it stands: on the one unit, its outputs in their own registers
 abbrev pub own_choice : List Instr → ℕ → Choice
@@ -29,11 +34,15 @@ own_schedule items = map (own_choice items) (numbers_below (length items))
 
 -- when they are issued, the last first
 unfoldable pub own_times : ℕ → List Instr → List Issued
-own_times latency items = timed (plain_costs latency (length items)) (sources_in (region_problem latency items)) (own_schedule items)
+own_times latency items =
+    timed (plain_costs latency (length items)) (sources_in (region_problem latency items))
+    (own_schedule items)
 
 -- the numbers of an item: its cycle, its unit, its number, and its line in the file
 abbrev pub cost_numbers : ℕ → ℕ → ℕ → List ℕ
-cost_numbers cycle number line = codes "c=" ++ (decimal cycle ++ (codes " u=u i=" ++ (decimal number ++ (codes " line=" ++ (decimal line ++ codes " ")))))
+cost_numbers cycle number line =
+    codes "c=" ++ (decimal cycle
+    ++ (codes " u=u i=" ++ (decimal number ++ (codes " line=" ++ (decimal line ++ codes " ")))))
 
 -- the line of an item: its numbers, and how it is printed
 abbrev pub cost_line : (Instr → List ℕ) → ℕ → Instr → ℕ → List ℕ
@@ -43,16 +52,22 @@ cost_line printed number i cycle = cost_numbers cycle number i.line ++ (printed 
 unfoldable pub cost_lines : (Instr → List ℕ) → ℕ → List Instr → List ℕ → List ℕ
 cost_lines printed number [] cycles = []
 cost_lines printed number (i ∷ items) [] = []
-cost_lines printed number (i ∷ items) (cycle ∷ cycles) = cost_line printed number i cycle ++ cost_lines printed (number + 1) items cycles
+cost_lines printed number (i ∷ items) (cycle ∷ cycles) =
+    cost_line printed number i cycle ++ cost_lines printed (number + 1) items cycles
 
 -- how many items there are, the cycles that they take and the stalls among these
 abbrev pub cost_head : ℕ → ℕ → ℕ → List ℕ
 cost_head items cycles stalled =
-    codes "kind=straight n=" ++ (decimal items ++ (codes " cycles=" ++ (decimal cycles ++ (codes " stalls=" ++ (decimal stalled ++ codes "\n")))))
+    codes "kind=straight n=" ++ (decimal items
+    ++ (codes " cycles=" ++ (decimal cycles
+    ++ (codes " stalls=" ++ (decimal stalled ++ codes "\n")))))
 
--- the text of `cost` for items that are issued so, the last first: its head, and a line for each item
+-- the text of `cost` for items that are issued so, the last first: its
+-- head, and a line for each item
 abbrev pub text_of : (Instr → List ℕ) → List Instr → List Issued → List ℕ
-text_of printed items times = cost_head (length items) (cycle_count times) (stalls 1 times) ++ cost_lines printed 0 items (cycles_of times)
+text_of printed items times =
+    cost_head (length items) (cycle_count times) (stalls 1 times)
+    ++ cost_lines printed 0 items (cycles_of times)
 
 -- the text of `cost`
 unfoldable pub cost_text : (Instr → List ℕ) → ℕ → List Instr → List ℕ

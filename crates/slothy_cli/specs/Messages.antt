@@ -31,6 +31,7 @@ code_of statuses.CheckNo = 8
 code_of statuses.TooLarge = 9
 code_of statuses.TurnsSpent = 10
 
+-- the status of a reason to stop
 abbrev pub stop_status : Stop → Status
 stop_status (stops.Refused file line reason) = statuses.Refused
 stop_status (stops.TooLarge file line quantity limit) = statuses.TooLarge
@@ -45,6 +46,7 @@ status_of (endings.ReadFault file) = statuses.ReadFault
 status_of (endings.WriteFault sent) = statuses.WriteFault
 status_of endings.NoMemory = statuses.NoMemory
 
+-- the word for what is wrong with an instruction
 abbrev pub form_text : FormReason → List ℕ
 form_text forms.UnknownMnemonic = codes "UnknownMnemonic"
 form_text forms.BadOperand = codes "BadOperand"
@@ -52,6 +54,7 @@ form_text forms.ImmediateRange = codes "ImmediateRange"
 form_text forms.RegisterClass = codes "RegisterClass"
 form_text forms.SameRegister = codes "SameRegister"
 
+-- the word for why a file is refused
 abbrev pub reason_text : Reason → List ℕ
 reason_text reasons.NotText = codes "NotText"
 reason_text reasons.NoStart = codes "NoStart"
@@ -61,6 +64,7 @@ reason_text reasons.NotYet = codes "NotYet"
 reason_text (reasons.Form form) = form_text form
 reason_text reasons.StateBad = codes "StateBad"
 
+-- the word for what there is too much of
 abbrev pub quantity_text : Quantity → List ℕ
 quantity_text quantities.File = codes "file"
 quantity_text quantities.Items = codes "items"
@@ -70,6 +74,7 @@ pub record Names : Type 0 where
   pub input : List ℕ
   pub state : List ℕ
 
+-- the name of one of a command's files
 abbrev pub name_in : Names → File → List ℕ
 name_in names files.Input = names.input
 name_in names files.State = names.state
@@ -77,16 +82,23 @@ name_in names files.State = names.state
 -- the line that says why a file has no text
 abbrev pub stop_message : Names → Stop → List ℕ
 stop_message names (stops.Refused file line reason) =
-    joined (codes "slothy: " ∷ name_in names file ∷ codes ":" ∷ decimal line ∷ codes ": refused: " ∷ reason_text reason ∷ codes "\n" ∷ [])
+    joined (codes "slothy: " ∷ name_in names file ∷ codes ":" ∷ decimal line ∷ codes ": refused: "
+    ∷ reason_text reason ∷ codes "\n" ∷ [])
 stop_message names (stops.TooLarge file line quantity limit) =
-    joined (codes "slothy: " ∷ name_in names file ∷ codes ":" ∷ decimal line ∷ codes ": too large: " ∷ quantity_text quantity ∷ codes " limit=" ∷ decimal limit ∷ codes "\n" ∷ [])
-stop_message names (stops.Infeasible most) = joined (codes "slothy: infeasible up to " ∷ decimal most ∷ codes " stalls\n" ∷ [])
+    joined (codes "slothy: " ∷ name_in names file ∷ codes ":" ∷ decimal line ∷ codes ": too large: "
+    ∷ quantity_text quantity ∷ codes " limit=" ∷ decimal limit ∷ codes "\n" ∷ [])
+stop_message names (stops.Infeasible most) =
+    joined (codes "slothy: infeasible up to " ∷ decimal most ∷ codes " stalls\n" ∷ [])
 
--- the line on standard error of an ending, where the files have these names; there is none where all went well
+-- the line on standard error of an ending, where the files have these names;
+-- there is none where all went well
 unfoldable pub message_of : Names → Ending → List ℕ
 message_of names endings.Done = joined []
-message_of names endings.Usage = joined (codes "slothy: usage: slothy MODE [INPUT] [OPTIONS]\n" ∷ [])
+message_of names endings.Usage =
+    joined (codes "slothy: usage: slothy MODE [INPUT] [OPTIONS]\n" ∷ [])
 message_of names (endings.Stopped stop) = stop_message names stop
-message_of names (endings.ReadFault file) = joined (codes "slothy: read fault: " ∷ name_in names file ∷ codes "\n" ∷ [])
-message_of names (endings.WriteFault sent) = joined (codes "slothy: write fault after " ∷ decimal sent ∷ codes " bytes\n" ∷ [])
+message_of names (endings.ReadFault file) =
+    joined (codes "slothy: read fault: " ∷ name_in names file ∷ codes "\n" ∷ [])
+message_of names (endings.WriteFault sent) =
+    joined (codes "slothy: write fault after " ∷ decimal sent ∷ codes " bytes\n" ∷ [])
 message_of names endings.NoMemory = joined (codes "slothy: no memory\n" ∷ [])

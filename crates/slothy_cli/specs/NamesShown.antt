@@ -2,5 +2,6 @@
 use Rattle.slothy_cli.specs.declared.report.Names as code
 use Rattle.slothy_cli.specs.Messages.{Names}
 
+-- names without where they lie in memory
 abbrev pub names_of : code.Names → Names
 names_of names = record { input = names.input.now; state = names.state.now }

@@ -3,6 +3,7 @@ use Rattle.std.specs.Prelude.{ℕ, ◌≡◌, nat_lt, List, [], length, MatchRes
 use Rattle.sl_model.specs.declared.instruction.Instr.{Instr}
 use Rattle.sl_model.specs.declared.schedule.Choice.{Choice}
 use Rattle.sl_model.specs.declared.text.CutRefusal.TheVariants as cuts
+use Rattle.sl_model.specs.ResultSteps.{◌>>=◌}
 use Rattle.sl_model.specs.State.{State}
 use Rattle.sl_model.specs.Text.{bad_line}
 use Rattle.sl_model.specs.Exec.{touches}
@@ -10,13 +11,13 @@ use Rattle.sl_model.specs.Legal.{written}
 use Rattle.sl_model.specs.Space.{InSpace, IsBest}
 use Rattle.sl_model.specs.Program.{TagsHoldOf, Leaves}
 use Rattle.sl_model.specs.Program.Program.{Straight}
-use Rattle.sl_isa.specs.Arch.{Language}
+use Rattle.sl_isa.specs.Language.{Language}
 use Rattle.sl_isa.specs.declared.arch.CounterOp.TheVariants.{Sub, Subs}
 use Rattle.asm_reader.specs.declared.reasons.Reason as reading
 use Rattle.asm_reader.specs.declared.reasons.Reason.TheVariants as why
 use Rattle.asm_reader.specs.declared.reasons.Refusal.{Refusal}
 use Rattle.asm_reader.specs.declared.reasons.Wants.{Wants}
-use Rattle.asm_reader.specs.Views.{comments_of}
+use Rattle.sl_isa.specs.Arch.{comments_of}
 use Rattle.asm_reader.specs.Reading.{Region, text_region, region_alone}
 use Rattle.asm_printer.specs.Printed.{line_end, region_text, written_text}
 use Rattle.slothy_cli.specs.declared.stop.Reason.TheVariants as reasons
@@ -28,17 +29,16 @@ use Rattle.slothy_cli.specs.declared.stop.File.{File}
 use Rattle.slothy_cli.specs.declared.stop.File.TheVariants as files
 use Rattle.slothy_cli.specs.Command.{Task, cost, opt, emulate, Command, wants_of}
 use Rattle.slothy_cli.specs.CostText.{region_problem, cost_text}
+use Rattle.sl_model.specs.Machine.{space_of}
+use Rattle.sl_model.specs.declared.limits.TheConstants.{FILE_BYTES, LISTED, STALLS}
 
-infixl 10 ◌>>=◌
--- goes on with what was found, unless there is a reason to stop
-abbrev pub ◌>>=◌ : {A B : Type 0} → Result A Stop → (A → Result B Stop) → Result B Stop
-(Ok x) >>= f = f x
-(Err stop) >>= f = Err stop
-
--- the bytes of a file, which are at most 1048576
+-- the bytes of a file, which are at most FILE_BYTES
 unfoldable pub sized : File → List ℕ → Result (List ℕ) Stop
-sized file bytes = if nat_lt 1048576 (length bytes) then Err (TooLarge file 0 quantities.File 1048576) else Ok bytes
+sized file bytes =
+    if nat_lt FILE_BYTES (length bytes) then Err (TooLarge file 0 quantities.File FILE_BYTES)
+    else Ok bytes
 
+-- the bytes of a file, unless a line of it is bad: it holds what is no character
 abbrev pub text_or : File → List ℕ → Option ℕ → Result (List ℕ) Stop
 text_or file bytes None = Ok bytes
 text_or file bytes (Some line) = Err (Refused file line reasons.NotText)
@@ -56,6 +56,7 @@ stop_at line (why.Form form) = Refused files.Input line (reasons.Form form)
 stop_at line why.NotYet = Refused files.Input line reasons.NotYet
 stop_at line (why.TooMany limit) = TooLarge files.Input line quantities.Items limit
 
+-- a region, or its refusal as a reason to stop
 abbrev pub region_or : Result Region Refusal → Result Region Stop
 region_or (Ok region) = Ok region
 region_or (Err refusal) = Err (stop_at refusal.line refusal.reason)
@@ -63,7 +64,8 @@ region_or (Err refusal) = Err (stop_at refusal.line refusal.reason)
 -- the region of a text
 abbrev pub region_from : Language → Wants → List ℕ → Result Region Stop
 region_from language wants text =
-    region_or (text_region language.reads (comments_of language.isa.name) wants (codes "slothy_start") (codes "slothy_end") text)
+    region_or (text_region language.reads (comments_of language.isa.name) wants
+    (codes "slothy_start") (codes "slothy_end") text)
 
 -- the region of a file with these bytes
 unfoldable pub file_region : Language → Wants → List ℕ → Result Region Stop
@@ -74,24 +76,33 @@ file_region language wants bytes = do
 
 -- what is asked of the written region, which is read by itself: its notes are comments
 abbrev pub wants_again : Wants
-wants_again = record { limit = 8; once = false; no_notes = false }
+wants_again = record { limit = LISTED; once = false; no_notes = false }
 
--- The text of `opt`: the written file of the best schedule; and its region, read by itself, leaves what the old one
--- leaves, from every state.
-pub record OptText (language : Language) (latency : ℕ) (region : Region) (text : List ℕ) : Type 0 where
+-- The text of `opt`: the written file of the best schedule; and its region, read by itself, leaves
+-- what the old one leaves, from every state.
+pub record OptText (language : Language) (latency : ℕ) (region : Region)
+    (text : List ℕ) : Type 0 where
   pub schedule : List Choice
-  pub best : IsBest language.isa (region_problem latency region.items) 64 schedule
-  pub text_is : text ≡ written_text language.printed region.parts (region_problem latency region.items) schedule
+  pub best : IsBest language.isa (region_problem latency region.items) STALLS schedule
+  pub text_is : text ≡ written_text language.printed region.parts
+      (region_problem latency region.items) schedule
   pub new : List Instr
   pub reads : region_alone language.reads (comments_of language.isa.name) wants_again
-      (region_text language.printed (region_problem latency region.items) schedule (line_end region.parts.before)) ≡ Ok new
-  pub same : (s : State) → TagsHoldOf language.isa.space (touches language.isa region.items s)
-      → Leaves language.isa (λ flagged c. language.step_of (if flagged then Subs else Sub 1) c 0) (written region.items) [] (Straight region.items) (Straight new) s
+      (region_text language.printed (region_problem latency region.items) schedule
+      (line_end region.parts.before)) ≡ Ok new
+  pub same : (s : State)
+      → TagsHoldOf (space_of language.isa.name) (touches language.isa region.items s)
+      → Leaves language.isa (λ flagged c. language.step_of (if flagged then Subs else Sub 1) c 0)
+      (written region.items) [] (Straight region.items) (Straight new) s
 
--- what `opt` answers for the core `one:L` to the region of a file: the text of the best schedule, or that there is none
+-- what `opt` answers for the core `one:L` to the region of a file: the text of the best
+-- schedule, or that there is none
 abbrev pub OptAnswers : Language → ℕ → Region → Result (List ℕ) Stop → Type 0
 OptAnswers language latency region (Ok text) = OptText language latency region text
-OptAnswers language latency region (Err stop) = (stop ≡ Infeasible 64) × ((schedule : List Choice) → InSpace language.isa (region_problem latency region.items) 64 schedule → ⊥)
+OptAnswers language latency region (Err stop) =
+    (stop ≡ Infeasible STALLS)
+    × ((schedule : List Choice)
+    → InSpace language.isa (region_problem latency region.items) STALLS schedule → ⊥)
 
 -- the text that a run leaves, or the first bad line of the state file
 abbrev pub state_or : Result (List ℕ) ℕ → Result (List ℕ) Stop
@@ -107,17 +118,21 @@ run_answer language items bytes = do
 
 -- what is answered to a region and to the bytes of the state file, where one is read
 abbrev pub TaskAnswers : Language → Task → Region → List ℕ → Result (List ℕ) Stop → Type 0
-TaskAnswers language (cost latency) region state answer = answer ≡ Ok (cost_text language.printed latency region.items)
+TaskAnswers language (cost latency) region state answer =
+    answer ≡ Ok (cost_text language.printed latency region.items)
 TaskAnswers language (opt latency) region state answer = OptAnswers language latency region answer
-TaskAnswers language (emulate name turns) region state answer = answer ≡ run_answer language region.items state
+TaskAnswers language (emulate name turns) region state answer =
+    answer ≡ run_answer language region.items state
 
 -- the bytes of a command's files; where no state file is read, it has none
 pub record Bytes : Type 0 where
   pub input : List ℕ
   pub state : List ℕ
 
--- What a command answers to the bytes of its files: a text, or the one reason why there is none. A file without a region
--- has none, for the first of its faults; and else what is to be done answers to its region.
+-- What a command answers to the bytes of its files: a text, or the one reason why there is
+-- none. A file without a region has none, for the first of its faults; and else what is to
+-- be done answers to its region.
 abbrev pub CommandAnswers : Language → Command → Bytes → Result (List ℕ) Stop → Type 0
 CommandAnswers language c bytes answer =
-    MatchResult (file_region language (wants_of c.task) bytes.input) (λ region. TaskAnswers language c.task region bytes.state answer) (λ stop. answer ≡ Err stop)
+    MatchResult (file_region language (wants_of c.task) bytes.input)
+    (λ region. TaskAnswers language c.task region bytes.state answer) (λ stop. answer ≡ Err stop)

@@ -1,11 +1,12 @@
 //! The words of a command.
-ghost use Rattle.std.specs.Prelude.{◌≡◌, ◌≤◌, List, ℕ, map, Option, Some, None, string_bytes, option_map, IfSome};
-ghost use Rattle.std.specs.List.{list_all};
-ghost use Rattle.std.specs.Char.{is_ascii_digit};
+ghost use Rattle.std.specs.Prelude.{◌≡◌, ◌≤◌, List, ℕ, map, Option, Some, None, string_bytes, option_map, option_and_then, IfSome};
+ghost use Rattle.sl_model.specs.Digits.{decimal_number};
 ghost use Rattle.slothy_cli.specs.Shown.{shown, shown_task};
-ghost use Rattle.slothy_cli.specs.Command.{HasLatency, wants_of, core_of, is_number, turns_of, state_of, emulation, run_of, task_of, command_of, latency_of, latency_from, is_counting, is_name};
+ghost use Rattle.slothy_cli.specs.Command.{HasLatency, wants_of, core_of, turns_of, state_of, emulation, run_of, task_of, command_of, latency_of, latency_from, between, is_name};
 
 use asm_reader::Wants;
+use sl_model::limits::{ITEMS, LISTED, TURNS};
+use sl_text::{Numeral, decimal_value};
 
 /// What a command does.
 #[derive(Clone, Copy, Debug)]
@@ -19,19 +20,19 @@ pub enum Task<'a> {
 }
 
 impl Task<'_> {
-    /// What is wanted of a region: at most 64 instructions; by `opt` at most 8, which write each register once. Notes aren't
-    /// read yet, and are refused.
+    /// What is wanted of a region: at most 64 instructions; by `opt` at most 8, which write each
+    /// register once. Notes aren't read yet, and are refused.
     pub fn wants(&self) -> Wants
         ensures { result ≡ wants_of (shown_task self.now) }
     {
         match self {
             Task::Opt { .. } => Wants {
-                limit: 8,
+                limit: LISTED,
                 once: true,
                 no_notes: true,
             },
             _ => Wants {
-                limit: 64,
+                limit: ITEMS,
                 once: false,
                 no_notes: true,
             },
@@ -39,7 +40,8 @@ impl Task<'_> {
     }
 }
 
-/// `cost NAME --core one:L`, `opt NAME --core one:L`, or `run NAME --state STATE`, to which `--turns N` may be added.
+/// `cost NAME --core one:L`, `opt NAME --core one:L`, or `run NAME --state STATE`, to
+/// which `--turns N` may be added.
 #[derive(Clone, Copy, Debug)]
 pub struct Command<'a> {
     /// What is to be done.
@@ -48,21 +50,19 @@ pub struct Command<'a> {
     pub name: &'a str,
 }
 
-// Are these all digits?
-fn are_digits(digits: &[u8]) -> bool
-    ensures { result ≡ list_all is_ascii_digit digits.now }
+// A number from `least` to `most` without needless zeros.
+fn number_between(least: u32, most: u32, digits: &str) -> Option<u32>
+    ensures value { result ≡ option_and_then (between least most) (decimal_number digits.now) }
+    ensures least { IfSome result (λ n. least ≤ n) }
+    ensures most { IfSome result (λ n. n ≤ most) }
 {
-    digits.iter().all(|c| c.is_ascii_digit())
-}
-
-// Do these spell a number from 1 on: digits alone, at least one, and the first isn't 0?
-fn is_counting(digits: &[u8]) -> bool
-    ensures { result ≡ is_counting digits.now }
-{
-    let [first, ..] = digits else {
-        return false;
+    let Numeral::Number(number) = decimal_value(u128::from(most), digits.as_bytes()) else {
+        return None;
     };
-    *first != b'0' && are_digits(digits)
+    if number < u128::from(least) {
+        return None;
+    }
+    Some(number as u32)
 }
 
 // The latency behind `one:`.
@@ -71,10 +71,8 @@ fn latency_from(digits: &str) -> Option<u8>
     ensures value { result ≡ latency_from digits.now }
     ensures least { IfSome result (λ latency. 1 ≤ latency) }
 {
-    if !is_counting(digits.as_bytes()) {
-        return None;
-    }
-    digits.parse::<u8>().ok()
+    let latency = number_between(1, 255, digits)?;
+    Some(latency as u8)
 }
 
 // The latency of the core that a word `one:L` names.
@@ -110,30 +108,12 @@ fn core_of(options: &[String]) -> Option<u8>
     latency_of(core.as_str())
 }
 
-// Do these spell a number: digits alone, and the first of several isn't 0?
-fn is_number(digits: &[u8]) -> bool
-    ensures { result ≡ is_number digits.now }
-{
-    match digits {
-        [] => false,
-        [digit] => digit.is_ascii_digit(),
-        _ => is_counting(digits),
-    }
-}
-
-// The number of turns, at most 10000000.
+// The number of turns.
 #[tactic(auto, unfolding(crate::specs::Command::turns_of))]
 fn turns_of(word: &str) -> Option<u32>
     ensures { result ≡ turns_of word.now }
 {
-    if !is_number(word.as_bytes()) {
-        return None;
-    }
-    let turns = word.parse::<u32>().ok()?;
-    if 10000000 < turns {
-        return None;
-    }
-    Some(turns)
+    number_between(0, TURNS, word)
 }
 
 // A run from the state of a file, with so many turns.
@@ -196,7 +176,8 @@ fn task_of<'a>(mode: &str, options: &'a [String]) -> Option<Task<'a>>
     }
 }
 
-/// The command that words ask for; there is none where they are wrong. The first word is the program's name.
+/// The command that words ask for; there is none where they are wrong. The
+/// first word is the program's name.
 #[tactic(auto, unfolding(crate::specs::Command::command_of))]
 pub fn command_of(words: &[String]) -> Option<Command<'_>>
     ensures value { option_map shown result ≡ command_of (map string_bytes words.now) }

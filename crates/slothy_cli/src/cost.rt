@@ -2,9 +2,9 @@
 
 ghost use Rattle.std.specs.Prelude.{◌≡◌, ◌≤◌, ◌+◌, ◌++◌, length, IfOk, OnOk};
 ghost use Rattle.sl_model.specs.Cycles.{cycles_of, cycle_count, stalls};
-ghost use Rattle.sl_model.specs.Lawful.{IsValid};
-ghost use Rattle.renamer.specs.WellPosed.{AreValid};
+ghost use Rattle.sl_model.specs.Lawful.{IsValid, AreValid};
 ghost use Rattle.slothy_cli.specs.CostText.{own_schedule, own_times, cost_numbers, cost_line, cost_lines, cost_head, cost_text};
+ghost use Rattle.sl_model.specs.declared.limits.TheConstants.{ITEMS};
 
 use crate::problem::region_problem;
 use issue_cost::NoMemory;
@@ -19,7 +19,7 @@ const UNIT: u8 = 0;
 
 /// Items, at most 64, as they stand, each in its own registers.
 fn own_schedule(alloc: Global, items: &[Instr]) -> Result<Vec<Choice>, NoMemory>
-    requires { length items.now ≤ 64 }
+    requires { length items.now ≤ ITEMS }
     ensures { IfOk result (λ schedule. schedule.items ≡ own_schedule items.now) }
 {
     let mut schedule = Vec::new(alloc);
@@ -37,9 +37,10 @@ fn own_schedule(alloc: Global, items: &[Instr]) -> Result<Vec<Choice>, NoMemory>
 
 /// When items, at most 64, are issued as they stand on the core `one:latency`.
 pub(crate) fn own_times(alloc: Global, items: &[Instr], latency: u8) -> Result<Times, NoMemory>
-    requires few { length items.now ≤ 64 }
+    requires few { length items.now ≤ ITEMS }
     requires least { 1 ≤ latency }
-    ensures cycles { IfOk result (λ times. times.cycles.items ≡ cycles_of (own_times latency items.now)) }
+    ensures cycles { IfOk result
+        (λ times. times.cycles.items ≡ cycles_of (own_times latency items.now)) }
     ensures count { IfOk result (λ times. times.count ≡ cycle_count (own_times latency items.now)) }
     ensures stalls { IfOk result (λ times. times.stalls ≡ stalls 1 (own_times latency items.now)) }
 {
@@ -76,8 +77,9 @@ fn push_line<A: Arch>(
     item: &Instr,
     cycle: u32,
 ) -> Result<(), NoMemory>
-    requires { IsValid A.isa item.now }
-    ensures { OnOk result (out.new.items ≡ out.old.items ++ cost_line A.printed number item.now cycle) }
+    requires { IsValid A.language.isa item.now }
+    ensures { OnOk result
+        (out.new.items ≡ out.old.items ++ cost_line A.language.printed number item.now cycle) }
 {
     push_numbers(out, u64::from(cycle), number, u64::from(item.line))?;
     arch.print_form(item, out)?;
@@ -93,9 +95,11 @@ fn push_lines<A: Arch>(
     items: &[Instr],
     cycles: &[u32],
 ) -> Result<(), NoMemory>
-    requires few { number + length items.now ≤ 64 }
-    requires valid { AreValid A.isa items.now }
-    ensures { OnOk result (out.new.items ≡ out.old.items ++ cost_lines A.printed number items.now cycles.now) }
+    requires few { number + length items.now ≤ ITEMS }
+    requires valid { AreValid A.language.isa items.now }
+    ensures { OnOk result
+        (out.new.items ≡ out.old.items
+        ++ cost_lines A.language.printed number items.now cycles.now) }
 {
     let Some((item, items)) = items.split_first() else {
         return Ok(());
@@ -107,8 +111,9 @@ fn push_lines<A: Arch>(
     push_lines(arch, out, number + 1, items, cycles)
 }
 
-/// The text of `cost` for items, at most 64, on the core `one:latency`, from 1 to 255: a line with how many items
-/// there are, the cycles that they take and the stalls among these, and a line for each item.
+/// The text of `cost` for items, at most 64, on the core `one:latency`, from 1 to 255: a
+/// line with how many items there are, the cycles that they take and the stalls among
+/// these, and a line for each item.
 #[tactic(auto, unfolding(crate::specs::CostText::cost_text))]
 pub fn cost_text<A: Arch>(
     arch: &A,
@@ -116,10 +121,10 @@ pub fn cost_text<A: Arch>(
     items: &[Instr],
     latency: u8,
 ) -> Result<Vec<u8>, NoMemory>
-    requires few { length items.now ≤ 64 }
+    requires few { length items.now ≤ ITEMS }
     requires least { 1 ≤ latency }
-    requires valid { AreValid A.isa items.now }
-    ensures { IfOk result (λ text. text.items ≡ cost_text A.printed latency items.now) }
+    requires valid { AreValid A.language.isa items.now }
+    ensures { IfOk result (λ text. text.items ≡ cost_text A.language.printed latency items.now) }
 {
     let times = own_times(alloc, items, latency)?;
     let mut text = Vec::new(alloc);

@@ -1,8 +1,10 @@
 //! The region of a file: its items, or why it has none.
 ghost use Rattle.std.specs.Prelude.{◌≡◌, ◌≤◌, ◌<◌, ◌^◌, length, IfOk};
 ghost use Rattle.asm_reader.specs.RegionViews.{region_of};
-ghost use Rattle.slothy_cli.specs.Shown.{Answers, Gives};
+ghost use Rattle.sl_model.specs.Answers.{Answers, Gives};
 ghost use Rattle.slothy_cli.specs.Outcome.{text_from, stop_at, region_from, file_region};
+ghost use Rattle.slothy_cli.specs.Shown.{stop_told};
+ghost use Rattle.sl_model.specs.declared.limits.TheConstants.{FILE_BYTES};
 
 use crate::stop::{Failure, File, Quantity, Reason, Stop};
 use asm_reader::{ReadRefusal, Reason as RegionReason, Refusal, Region, Wants, read_region};
@@ -67,7 +69,7 @@ fn region_from<'a, A: Arch>(
     text: &'a str,
 ) -> Result<Region<'a>, Failure>
     requires { length text.now < 2 ^ 31 }
-    ensures { Gives region_of result (region_from (record { isa = A.isa; reads = A.reads; printed = A.printed; step_of = A.step_of }) wants text.now) }
+    ensures { Gives stop_told region_of result (region_from A.language wants text.now) }
 {
     match read_region(arch, alloc, text, START, END, wants) {
         Ok(region) => Ok(region),
@@ -83,8 +85,8 @@ pub fn file_region<'a, A: Arch>(
     wants: Wants,
     bytes: &'a [u8],
 ) -> Result<Region<'a>, Failure>
-    requires { length bytes.now ≤ 1048576 }
-    ensures { Gives region_of result (file_region (record { isa = A.isa; reads = A.reads; printed = A.printed; step_of = A.step_of }) wants bytes.now) }
+    requires { length bytes.now ≤ FILE_BYTES }
+    ensures { Gives stop_told region_of result (file_region A.language wants bytes.now) }
 {
     let text = text_from(File::Input, bytes)?;
     region_from(arch, alloc, wants, text)

@@ -5,16 +5,10 @@ mod command;
 mod cost;
 mod input;
 mod opt;
-#[cfg(test)]
-mod opt_tests;
 mod problem;
 mod report;
-#[cfg(test)]
-mod run_tests;
 pub mod status;
 pub mod stop;
-#[cfg(test)]
-mod tests;
 mod top;
 mod work;
 

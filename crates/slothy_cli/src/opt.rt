@@ -8,11 +8,11 @@ ghost use Rattle.legal_space.specs.Timed.{HasKnownSources};
 ghost use Rattle.sl_text.specs.Cut.{parts_of};
 ghost use Rattle.asm_reader.specs.RegionViews.{region_of};
 ghost use Rattle.asm_printer.specs.Printed.{written_text};
-ghost use Rattle.asm_printer.specs.ReadBack.{IsPrintable};
 ghost use Rattle.slothy_cli.specs.Command.{opt, wants_of};
 ghost use Rattle.slothy_cli.specs.Outcome.{OptAnswers};
 ghost use Rattle.slothy_cli.specs.Fine.{AreFine};
-ghost use Rattle.slothy_cli.specs.Shown.{Settles};
+ghost use Rattle.sl_model.specs.Answers.{Settles};
+ghost use Rattle.slothy_cli.specs.Shown.{stop_told};
 
 use crate::problem::region_problem;
 use crate::stop::{Failure, Stop};
@@ -21,11 +21,9 @@ use asm_reader::Region;
 use legal_space::{Choice, Problem, best_schedule, times_of};
 use renamer::apply;
 use sl_isa::Arch;
+use sl_model::limits::STALLS;
 use sl_text::Cut;
 use std::alloc::Global;
-
-/// The most stalls that a schedule may have.
-const MOST_STALLS: u32 = 64;
 
 // The written file of a full legal schedule of the items of a region.
 fn written_file<A: Arch>(
@@ -38,11 +36,14 @@ fn written_file<A: Arch>(
     requires few { length schedule.now ≤ 8 }
     requires rows { length problem.now.costs.rows ≡ length problem.now.items }
     requires sources { HasKnownSources problem.now }
-    requires known { IsTrue (list_all (λ c. nat_lt c.item (length problem.now.items)) schedule.now) }
+    requires known { IsTrue
+        (list_all (λ c. nat_lt c.item (length problem.now.items)) schedule.now) }
     requires units { IsTrue (list_all (λ c. nat_lt c.unit 16) schedule.now) }
-    requires sound { IsSound A.isa (body_of problem.now) }
-    requires legal { IsFullLegal A.isa problem.now schedule.now }
-    ensures { Settles (λ text. text.items) result (λ answer. answer ≡ Ok (written_text A.printed (parts_of cut.now) problem.now schedule.now)) }
+    requires sound { IsSound A.language.isa (body_of problem.now) }
+    requires legal { IsFullLegal A.language.isa problem.now schedule.now }
+    ensures { Settles stop_told (λ text. text.items) result
+        (λ answer. answer
+        ≡ Ok (written_text A.language.printed (parts_of cut.now) problem.now schedule.now)) }
 {
     let items = apply(alloc, problem, problem.items(), schedule)?;
     let times = times_of(alloc, problem, schedule)?;
@@ -59,8 +60,8 @@ fn written_file<A: Arch>(
     Ok(text)
 }
 
-/// The written file of the best schedule of a region of at most 8 items that write each register once, on the core
-/// `one:latency`; or that no schedule has few enough stalls.
+/// The written file of the best schedule of a region of at most 8 items that write each register
+/// once, on the core `one:latency`; or that no schedule has few enough stalls.
 pub fn opt_text<A: Arch>(
     arch: &A,
     alloc: Global,
@@ -68,14 +69,13 @@ pub fn opt_text<A: Arch>(
     latency: u8,
 ) -> Result<Vec<u8>, Failure>
     requires least { 1 ≤ latency }
-    requires printable { IsPrintable A.reads A.printed }
-    requires fine { AreFine (record { isa = A.isa; reads = A.reads; printed = A.printed; step_of = A.step_of }) (wants_of (opt latency)) region.now.items.items }
-    ensures { Settles (λ text. text.items) result
-        (OptAnswers (record { isa = A.isa; reads = A.reads; printed = A.printed; step_of = A.step_of }) latency (region_of region.now)) }
+    requires fine { AreFine A.language (wants_of (opt latency)) region.now.items.items }
+    ensures { Settles stop_told (λ text. text.items) result
+        (OptAnswers A.language latency (region_of region.now)) }
 {
     let problem = region_problem(alloc, &region.items, latency)?;
-    let Some(schedule) = best_schedule(arch, alloc, &problem, MOST_STALLS)? else {
-        return Err(Failure::Stopped(Stop::Infeasible { most: MOST_STALLS }));
+    let Some(schedule) = best_schedule(arch, alloc, &problem, STALLS)? else {
+        return Err(Failure::Stopped(Stop::Infeasible { most: STALLS }));
     };
     written_file(arch, alloc, &problem, &region.cut, &schedule)
 }

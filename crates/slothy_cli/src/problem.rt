@@ -2,6 +2,7 @@
 ghost use Rattle.std.specs.Prelude.{◌≡◌, ◌≤◌, length, IfOk};
 ghost use Rattle.legal_space.specs.Timed.{HasKnownSources};
 ghost use Rattle.slothy_cli.specs.CostText.{plain_row, plain_costs, region_problem};
+ghost use Rattle.sl_model.specs.declared.limits.TheConstants.{ITEMS};
 
 use issue_cost::{CostRow, Costs, NoMemory};
 use legal_space::{Problem, written};
@@ -11,7 +12,8 @@ use std::alloc::{AllocError, Global};
 /// How many items the core issues in a cycle.
 const WIDTH: u8 = 1;
 
-/// The row of every item: the unit is kept for one cycle, and a result is ready after `latency` cycles.
+/// The row of every item: the unit is kept for one cycle, and a result
+/// is ready after `latency` cycles.
 fn plain_row(latency: u8) -> CostRow
     ensures { result ≡ plain_row latency }
 {
@@ -34,11 +36,11 @@ fn plain_costs(alloc: Global, latency: u8, items: usize) -> Result<Costs, NoMemo
     Costs::new(alloc, WIDTH, &rows, &[])
 }
 
-/// The problem of items, at most 64, on the core `one:latency`: all registers that they write are live-out, and none is
-/// free.
+/// The problem of items, at most 64, on the core `one:latency`: all registers that they write
+/// are live-out, and none is free.
 pub fn region_problem(alloc: Global, items: &[Instr], latency: u8) -> Result<Problem, NoMemory>
     requires least { 1 ≤ latency }
-    requires few { length items.now ≤ 64 }
+    requires few { length items.now ≤ ITEMS }
     ensures problem { IfOk result (λ problem. problem ≡ region_problem latency items.now) }
     ensures sources { IfOk result (λ problem. HasKnownSources problem) }
 {

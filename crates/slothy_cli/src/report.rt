@@ -4,7 +4,7 @@ ghost use Rattle.std.specs.Fmt.{decimal};
 ghost use Rattle.sl_model.specs.Text.{joined};
 ghost use Rattle.slothy_cli.specs.Messages.{form_text, reason_text, quantity_text, name_in, stop_message, message_of};
 ghost use Rattle.slothy_cli.specs.NamesShown.{names_of};
-ghost use Rattle.slothy_cli.specs.Ending.{TookFront};
+ghost use Rattle.slothy_cli.specs.Ending.{sink_run, TookFront};
 
 use crate::status::Ending;
 use crate::stop::{File, Quantity, Reason, Stop};
@@ -32,12 +32,8 @@ fn name_in<'a>(names: Names<'a>, file: File) -> &'a str
 // Writes texts one behind the other, until the sink fails. It takes no memory.
 fn tell<S: Sink>(sink: &mut S, pieces: &[&str])
     ensures never_falls { S.faults sink.old ≤ S.faults sink.new }
-    ensures took { TookFront (record {
-      before = S.taken sink.old;
-      after = S.taken sink.new;
-      faults_before = S.faults sink.old;
-      faults_after = S.faults sink.new;
-    }) (joined (map (λ piece. piece.now) pieces.now)) }
+    ensures took { TookFront (sink_run S.taken S.faults sink.old sink.new)
+        (joined (map (λ piece. piece.now) pieces.now)) }
 {
     for piece in pieces {
         if let Err(_) = write_all(sink, piece.as_bytes()) {
@@ -87,12 +83,9 @@ fn quantity_text(quantity: Quantity) -> &'static str
 // Says that a line of a file is refused.
 fn report_refusal<'a, S: Sink>(sink: &mut S, name: &'a str, line: &'a str, reason: &'a str)
     ensures never_falls { S.faults sink.old ≤ S.faults sink.new }
-    ensures took { TookFront (record {
-      before = S.taken sink.old;
-      after = S.taken sink.new;
-      faults_before = S.faults sink.old;
-      faults_after = S.faults sink.new;
-    }) (joined (codes "slothy: " ∷ name.now ∷ codes ":" ∷ line.now ∷ codes ": refused: " ∷ reason.now ∷ codes "\n" ∷ [])) }
+    ensures took { TookFront (sink_run S.taken S.faults sink.old sink.new)
+        (joined (codes "slothy: " ∷ name.now ∷ codes ":" ∷ line.now ∷ codes ": refused: "
+        ∷ reason.now ∷ codes "\n" ∷ [])) }
 {
     tell(
         sink,
@@ -109,12 +102,9 @@ fn report_limit<'a, S: Sink>(
     limit: &'a str,
 )
     ensures never_falls { S.faults sink.old ≤ S.faults sink.new }
-    ensures took { TookFront (record {
-      before = S.taken sink.old;
-      after = S.taken sink.new;
-      faults_before = S.faults sink.old;
-      faults_after = S.faults sink.new;
-    }) (joined (codes "slothy: " ∷ name.now ∷ codes ":" ∷ line.now ∷ codes ": too large: " ∷ quantity.now ∷ codes " limit=" ∷ limit.now ∷ codes "\n" ∷ [])) }
+    ensures took { TookFront (sink_run S.taken S.faults sink.old sink.new)
+        (joined (codes "slothy: " ∷ name.now ∷ codes ":" ∷ line.now ∷ codes ": too large: "
+        ∷ quantity.now ∷ codes " limit=" ∷ limit.now ∷ codes "\n" ∷ [])) }
 {
     tell(
         sink,
@@ -135,12 +125,8 @@ fn report_limit<'a, S: Sink>(
 // Says that no schedule has so few stalls, in decimal digits.
 fn report_infeasible<S: Sink>(sink: &mut S, most: &str)
     ensures never_falls { S.faults sink.old ≤ S.faults sink.new }
-    ensures took { TookFront (record {
-      before = S.taken sink.old;
-      after = S.taken sink.new;
-      faults_before = S.faults sink.old;
-      faults_after = S.faults sink.new;
-    }) (joined (codes "slothy: infeasible up to " ∷ most.now ∷ codes " stalls\n" ∷ [])) }
+    ensures took { TookFront (sink_run S.taken S.faults sink.old sink.new)
+        (joined (codes "slothy: infeasible up to " ∷ most.now ∷ codes " stalls\n" ∷ [])) }
 {
     tell(sink, &["slothy: infeasible up to ", most, " stalls\n"]);
 }
@@ -148,12 +134,8 @@ fn report_infeasible<S: Sink>(sink: &mut S, most: &str)
 // Says why a file has no text.
 fn report_stop<S: Sink>(sink: &mut S, names: Names<'_>, stop: Stop)
     ensures never_falls { S.faults sink.old ≤ S.faults sink.new }
-    ensures took { TookFront (record {
-      before = S.taken sink.old;
-      after = S.taken sink.new;
-      faults_before = S.faults sink.old;
-      faults_after = S.faults sink.new;
-    }) (stop_message (names_of names.entry) stop) }
+    ensures took { TookFront (sink_run S.taken S.faults sink.old sink.new)
+        (stop_message (names_of names.entry) stop) }
 {
     let mut line_digits = Buffer::new();
     let mut limit_digits = Buffer::new();
@@ -180,12 +162,8 @@ fn report_stop<S: Sink>(sink: &mut S, names: Names<'_>, stop: Stop)
 // Says which file couldn't be read.
 fn report_read_fault<S: Sink>(sink: &mut S, name: &str)
     ensures never_falls { S.faults sink.old ≤ S.faults sink.new }
-    ensures took { TookFront (record {
-      before = S.taken sink.old;
-      after = S.taken sink.new;
-      faults_before = S.faults sink.old;
-      faults_after = S.faults sink.new;
-    }) (joined (codes "slothy: read fault: " ∷ name.now ∷ codes "\n" ∷ [])) }
+    ensures took { TookFront (sink_run S.taken S.faults sink.old sink.new)
+        (joined (codes "slothy: read fault: " ∷ name.now ∷ codes "\n" ∷ [])) }
 {
     tell(sink, &["slothy: read fault: ", name, "\n"]);
 }
@@ -193,12 +171,8 @@ fn report_read_fault<S: Sink>(sink: &mut S, name: &str)
 // Says how many bytes were written, in decimal digits.
 fn report_sent<S: Sink>(sink: &mut S, digits: &str)
     ensures never_falls { S.faults sink.old ≤ S.faults sink.new }
-    ensures took { TookFront (record {
-      before = S.taken sink.old;
-      after = S.taken sink.new;
-      faults_before = S.faults sink.old;
-      faults_after = S.faults sink.new;
-    }) (joined (codes "slothy: write fault after " ∷ digits.now ∷ codes " bytes\n" ∷ [])) }
+    ensures took { TookFront (sink_run S.taken S.faults sink.old sink.new)
+        (joined (codes "slothy: write fault after " ∷ digits.now ∷ codes " bytes\n" ∷ [])) }
 {
     tell(sink, &["slothy: write fault after ", digits, " bytes\n"]);
 }
@@ -206,27 +180,20 @@ fn report_sent<S: Sink>(sink: &mut S, digits: &str)
 // Says how many bytes were written.
 fn report_write_fault<S: Sink>(sink: &mut S, sent: u64)
     ensures never_falls { S.faults sink.old ≤ S.faults sink.new }
-    ensures took { TookFront (record {
-      before = S.taken sink.old;
-      after = S.taken sink.new;
-      faults_before = S.faults sink.old;
-      faults_after = S.faults sink.new;
-    }) (joined (codes "slothy: write fault after " ∷ decimal sent ∷ codes " bytes\n" ∷ [])) }
+    ensures took { TookFront (sink_run S.taken S.faults sink.old sink.new)
+        (joined (codes "slothy: write fault after " ∷ decimal sent ∷ codes " bytes\n" ∷ [])) }
 {
     let mut digits = Buffer::new();
     report_sent(sink, digits.format(sent));
 }
 
-/// Writes the line of an ending, where the files have these names. It takes no memory, and goes as far as the sink takes it.
+/// Writes the line of an ending, where the files have these names. It takes no memory, and
+/// goes as far as the sink takes it.
 #[tactic(auto, unfolding(crate::specs::Messages::message_of))]
 pub fn report<S: Sink>(sink: &mut S, names: Names<'_>, ending: Ending)
     ensures never_falls { S.faults sink.old ≤ S.faults sink.new }
-    ensures took { TookFront (record {
-      before = S.taken sink.old;
-      after = S.taken sink.new;
-      faults_before = S.faults sink.old;
-      faults_after = S.faults sink.new;
-    }) (message_of (names_of names.entry) ending) }
+    ensures took { TookFront (sink_run S.taken S.faults sink.old sink.new)
+        (message_of (names_of names.entry) ending) }
 {
     match ending {
         Ending::Done => tell(sink, &[]),

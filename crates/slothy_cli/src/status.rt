@@ -33,7 +33,8 @@ pub enum Status {
 }
 
 impl Status {
-    /// The number that stands for the status, from 0 for `Done` to 10 for `TurnsSpent`, in their order.
+    /// The number that stands for the status, from 0 for `Done` to 10
+    /// for `TurnsSpent`, in their order.
     pub fn code(&self) -> u8
         ensures { result ≡ code_of self.now }
     {

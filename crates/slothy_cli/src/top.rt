@@ -5,11 +5,10 @@ ghost use Rattle.slothy_cli.specs.declared.stop.Stop.{Stop as TheStop};
 ghost use Rattle.slothy_cli.specs.Command.{Command as Words, HasLatency, command_of};
 ghost use Rattle.slothy_cli.specs.NamesShown.{names_of};
 ghost use Rattle.arm64_table.specs.Arm64.{arm64};
-ghost use Rattle.asm_printer.specs.ReadBack.{IsPrintable};
 ghost use Rattle.slothy_cli.specs.Shown.{shown, shown_task};
 ghost use Rattle.slothy_cli.specs.Outcome.{Bytes, CommandAnswers};
 ghost use Rattle.slothy_cli.specs.Messages.{status_of};
-ghost use Rattle.slothy_cli.specs.Ending.{AreTold, known_of, names_of_command, Ends, Call, IsStatusOf, Delivers};
+ghost use Rattle.slothy_cli.specs.Ending.{AreTold, known_of, names_of_command, files_run, sink_run, Ends, Call, IsStatusOf, Delivers};
 ghost use Rattle.slothy_cli.specs.declared.stop.File.TheVariants.{State};
 
 use crate::command::{Command, Task, command_of};
@@ -25,12 +24,7 @@ use std::thread::Threads;
 // Writes a whole text.
 fn deliver<O: Sink>(out: &mut O, text: &[u8]) -> Ending
     ensures never_falls { O.faults out.old ≤ O.faults out.new }
-    ensures delivers { Delivers (record {
-      before = O.taken out.old;
-      after = O.taken out.new;
-      faults_before = O.faults out.old;
-      faults_after = O.faults out.new;
-    }) text.now result }
+    ensures delivers { Delivers (sink_run O.taken O.faults out.old out.new) text.now result }
 {
     match write_all(out, text) {
         Ok(()) => Ending::Done,
@@ -47,22 +41,13 @@ fn carry_out<A: Arch, F: Files, O: Sink>(
     out: &mut O,
 ) -> Ending
     requires least { HasLatency (shown_task command.now.task) }
-    requires printable { IsPrintable A.reads A.printed }
     ensures same_files { F.holds files.new ≡ F.holds files.old }
     ensures files_never_fall { F.faults files.old ≤ F.faults files.new }
     ensures out_never_falls { O.faults out.old ≤ O.faults out.new }
-    ensures ends { Ends (record { isa = A.isa; reads = A.reads; printed = A.printed; step_of = A.step_of }) (shown command.now) (known_of (shown command.now) (F.holds files.old)) (record {
-      faults_before = F.faults files.old;
-      faults_after = F.faults files.new;
-      given = F.given files.new;
-      chosen = F.chosen files.new;
-      broken = F.broken files.new;
-    }) (record {
-      before = O.taken out.old;
-      after = O.taken out.new;
-      faults_before = O.faults out.old;
-      faults_after = O.faults out.new;
-    }) result }
+    ensures ends { Ends A.language (shown command.now)
+        (known_of (shown command.now) (F.holds files.old))
+        (files_run F.faults F.given F.chosen F.broken files.old files.new)
+        (sink_run O.taken O.faults out.old out.new) result }
 {
     match text_of_file(arch, alloc, command, files) {
         Ok(text) => deliver(out, &text),
@@ -93,28 +78,14 @@ fn call<A: Arch, F: Files, O: Sink, E: Sink>(
     out: &mut O,
     err: &mut E,
 ) -> Ending
-    requires { IsPrintable A.reads A.printed }
     ensures same_files { F.holds files.new ≡ F.holds files.old }
     ensures files_never_fall { F.faults files.old ≤ F.faults files.new }
     ensures out_never_falls { O.faults out.old ≤ O.faults out.new }
     ensures err_never_falls { E.faults err.old ≤ E.faults err.new }
-    ensures call { Call (record { isa = A.isa; reads = A.reads; printed = A.printed; step_of = A.step_of }) (map string_bytes words.now) (F.holds files.old) (record {
-      faults_before = F.faults files.old;
-      faults_after = F.faults files.new;
-      given = F.given files.new;
-      chosen = F.chosen files.new;
-      broken = F.broken files.new;
-    }) (record {
-      before = O.taken out.old;
-      after = O.taken out.new;
-      faults_before = O.faults out.old;
-      faults_after = O.faults out.new;
-    }) (record {
-      before = E.taken err.old;
-      after = E.taken err.new;
-      faults_before = E.faults err.old;
-      faults_after = E.faults err.new;
-    }) result }
+    ensures call { Call A.language (map string_bytes words.now) (F.holds files.old)
+        (files_run F.faults F.given F.chosen F.broken files.old files.new)
+        (sink_run O.taken O.faults out.old out.new)
+        (sink_run E.taken E.faults err.old err.new) result }
 {
     let Some(command) = command_of(words) else {
         let names = Names {
@@ -129,8 +100,8 @@ fn call<A: Arch, F: Files, O: Sink, E: Sink>(
     ending
 }
 
-/// Runs the command that `words` ask for, of which the first is the program's name: reads its files from `files`, writes
-/// the text to `out`, and where there is none says why on `err`.
+/// Runs the command that `words` ask for, of which the first is the program's name: reads its files
+/// from `files`, writes the text to `out`, and where there is none says why on `err`.
 ///
 /// No thread is started yet, and `gate` isn't told of anything.
 pub fn run<R: Threads + Sync, F: Files, O: Sink, E: Sink, G: Gate + Sync>(
@@ -143,30 +114,21 @@ pub fn run<R: Threads + Sync, F: Files, O: Sink, E: Sink, G: Gate + Sync>(
     _gate: &G,
 ) -> Status
     // The call ended in one way, with its cause, and says what the sinks took.
-    ensures call { (ending : TheEnding) × (result ≡ status_of ending) × Call arm64 (map string_bytes words.now) (F.holds files.old) (record {
-      faults_before = F.faults files.old;
-      faults_after = F.faults files.new;
-      given = F.given files.new;
-      chosen = F.chosen files.new;
-      broken = F.broken files.new;
-    }) (record {
-      before = O.taken out.old;
-      after = O.taken out.new;
-      faults_before = O.faults out.old;
-      faults_after = O.faults out.new;
-    }) (record {
-      before = E.taken err.old;
-      after = E.taken err.new;
-      faults_before = E.faults err.old;
-      faults_after = E.faults err.new;
-    }) ending }
+    ensures call { (ending : TheEnding) × (result ≡ status_of ending)
+        × Call arm64 (map string_bytes words.now) (F.holds files.old)
+        (files_run F.faults F.given F.chosen F.broken files.old files.new)
+        (sink_run O.taken O.faults out.old out.new)
+        (sink_run E.taken E.faults err.old err.new) ending }
 
     // Wrong use is answered exactly where the words are wrong.
     ensures usage { (result ≡ Status.Usage) ↔ (command_of (map string_bytes words.now) ≡ None) }
 
-    // Of files whose bytes are known the status is that of their outcome, faults and want of memory aside.
-    ensures exact { (c : Words) (bytes : Bytes) (answer : Result (List ℕ) TheStop) → command_of (map string_bytes words.now) ≡ Some c
-        → AreTold State (known_of c (F.holds files.old)) bytes → CommandAnswers arm64 c bytes answer → IsStatusOf answer result }
+    // Of files whose bytes are known the status is that of their outcome,
+    // faults and want of memory aside.
+    ensures exact { (c : Words) (bytes : Bytes) (answer : Result (List ℕ) TheStop)
+        → command_of (map string_bytes words.now) ≡ Some c
+        → AreTold State (known_of c (F.holds files.old)) bytes → CommandAnswers arm64 c bytes answer
+        → IsStatusOf answer result }
 
     // What stays, and counts of faults never fall.
     ensures same_files { F.holds files.new ≡ F.holds files.old }

@@ -1,15 +1,16 @@
 //! From a command and its files to the text.
 ghost use Rattle.std.specs.Prelude.{◌≡◌, ◌≤◌, length, IfOk, IfErr};
 ghost use Rattle.asm_reader.specs.RegionViews.{region_of};
-ghost use Rattle.asm_printer.specs.ReadBack.{IsPrintable};
 ghost use Rattle.std.specs.List.{AllByRecursion};
 ghost use Rattle.sl_model.specs.Lawful.{IsValid};
-ghost use Rattle.slothy_cli.specs.Shown.{shown, shown_task, Gives, unread_ending, failed_ending};
+ghost use Rattle.slothy_cli.specs.Shown.{shown, shown_task, unread_ending, failed_ending, stop_told};
+ghost use Rattle.sl_model.specs.Answers.{Gives};
 ghost use Rattle.slothy_cli.specs.Command.{HasLatency, wants_of};
 ghost use Rattle.slothy_cli.specs.Outcome.{run_answer};
 ghost use Rattle.slothy_cli.specs.Fine.{AreFine};
-ghost use Rattle.slothy_cli.specs.Ending.{AreOf, known_of, state_known, HasText, HasCause};
+ghost use Rattle.slothy_cli.specs.Ending.{AreOf, known_of, state_known, files_run, HasText, HasCause};
 ghost use Rattle.slothy_cli.specs.Parts.{RunText, RunCause, RegionText, RegionCause};
+ghost use Rattle.sl_model.specs.declared.limits.TheConstants.{FILE_BYTES};
 
 use crate::command::{Command, Task};
 use crate::cost::cost_text;
@@ -20,11 +21,9 @@ use crate::stop::{Failure, File, Quantity, Reason, Stop};
 use asm_reader::Region;
 use sl_base::{Files, ReadErr, read_all};
 use sl_isa::{Arch, Instr};
+use sl_model::limits::FILE_BYTES;
 use state_text::{StateErr, run_on_state};
 use std::alloc::Global;
-
-/// The most bytes that a file may have.
-const FILE_BYTES: u64 = 1048576;
 
 // How a file that couldn't be read ends the call.
 fn unread(file: File, error: ReadErr) -> Ending
@@ -52,7 +51,8 @@ fn unanswered(failure: Failure) -> Ending
     }
 }
 
-// What a run answers to the items of a region and the bytes of the state file, of which there are at most 1048576.
+// What a run answers to the items of a region and the bytes of the state file, of
+// which there are at most 1048576.
 #[tactic(auto, unfolding(crate::specs::Outcome::run_answer))]
 fn run_answer<A: Arch>(
     arch: &A,
@@ -60,9 +60,10 @@ fn run_answer<A: Arch>(
     items: &[Instr],
     bytes: &[u8],
 ) -> Result<Vec<u8>, Failure>
-    requires valid { AllByRecursion (IsValid A.isa) items.now }
-    requires short { length bytes.now ≤ 1048576 }
-    ensures { Gives (λ text. text.items) result (run_answer (record { isa = A.isa; reads = A.reads; printed = A.printed; step_of = A.step_of }) items.now bytes.now) }
+    requires valid { AllByRecursion (IsValid A.language.isa) items.now }
+    requires short { length bytes.now ≤ FILE_BYTES }
+    ensures { Gives stop_told (λ text. text.items) result
+        (run_answer A.language items.now bytes.now) }
 {
     let text = text_from(File::State, bytes)?;
     match run_on_state(arch, alloc, items, text) {
@@ -84,17 +85,14 @@ fn text_of_state<A: Arch, F: Files>(
     name: &str,
     files: &mut F,
 ) -> Result<Vec<u8>, Ending>
-    requires valid { AllByRecursion (IsValid A.isa) items.now }
+    requires valid { AllByRecursion (IsValid A.language.isa) items.now }
     ensures same_files { F.holds files.new ≡ F.holds files.old }
     ensures never_falls { F.faults files.old ≤ F.faults files.new }
-    ensures text { IfOk result (λ text. RunText (record { isa = A.isa; reads = A.reads; printed = A.printed; step_of = A.step_of }) items.now (F.holds files.old name.now) text.items) }
-    ensures cause { IfErr result (λ ending. RunCause (record { isa = A.isa; reads = A.reads; printed = A.printed; step_of = A.step_of }) items.now (F.holds files.old name.now) name.now (record {
-      faults_before = F.faults files.old;
-      faults_after = F.faults files.new;
-      given = F.given files.new;
-      chosen = F.chosen files.new;
-      broken = F.broken files.new;
-    }) ending) }
+    ensures text { IfOk result
+        (λ text. RunText A.language items.now (F.holds files.old name.now) text.items) }
+    ensures cause { IfErr result
+        (λ ending. RunCause A.language items.now (F.holds files.old name.now) name.now
+        (files_run F.faults F.given F.chosen F.broken files.old files.new) ending) }
 {
     match read_all(alloc, files, name, FILE_BYTES) {
         Ok(bytes) => match run_answer(arch, alloc, items, &bytes) {
@@ -114,18 +112,16 @@ fn text_of_region<A: Arch, F: Files>(
     files: &mut F,
 ) -> Result<Vec<u8>, Ending>
     requires least { HasLatency (shown_task task) }
-    requires printable { IsPrintable A.reads A.printed }
-    requires fine { AreFine (record { isa = A.isa; reads = A.reads; printed = A.printed; step_of = A.step_of }) (wants_of (shown_task task)) region.now.items.items }
+    requires fine { AreFine A.language (wants_of (shown_task task)) region.now.items.items }
     ensures same_files { F.holds files.new ≡ F.holds files.old }
     ensures never_falls { F.faults files.old ≤ F.faults files.new }
-    ensures text { IfOk result (λ text. RegionText (record { isa = A.isa; reads = A.reads; printed = A.printed; step_of = A.step_of }) (shown_task task.entry) (region_of region.now) (state_known (shown_task task.entry) (F.holds files.old)) text.items) }
-    ensures cause { IfErr result (λ ending. RegionCause (record { isa = A.isa; reads = A.reads; printed = A.printed; step_of = A.step_of }) (shown_task task.entry) (region_of region.now) (state_known (shown_task task.entry) (F.holds files.old)) (record {
-      faults_before = F.faults files.old;
-      faults_after = F.faults files.new;
-      given = F.given files.new;
-      chosen = F.chosen files.new;
-      broken = F.broken files.new;
-    }) ending) }
+    ensures text { IfOk result
+        (λ text. RegionText A.language (shown_task task.entry) (region_of region.now)
+        (state_known (shown_task task.entry) (F.holds files.old)) text.items) }
+    ensures cause { IfErr result
+        (λ ending. RegionCause A.language (shown_task task.entry) (region_of region.now)
+        (state_known (shown_task task.entry) (F.holds files.old))
+        (files_run F.faults F.given F.chosen F.broken files.old files.new) ending) }
 {
     match task {
         Task::Cost { latency } => match cost_text(arch, alloc, &region.items, latency) {
@@ -149,19 +145,15 @@ fn text_of_bytes<A: Arch, F: Files>(
     files: &mut F,
 ) -> Result<Vec<u8>, Ending>
     requires least { HasLatency (shown_task command.now.task) }
-    requires printable { IsPrintable A.reads A.printed }
-    requires short { length bytes.now ≤ 1048576 }
+    requires short { length bytes.now ≤ FILE_BYTES }
     requires told { AreOf (F.holds files.old command.now.name.now) bytes.now }
     ensures same_files { F.holds files.new ≡ F.holds files.old }
     ensures never_falls { F.faults files.old ≤ F.faults files.new }
-    ensures text { IfOk result (λ text. HasText (record { isa = A.isa; reads = A.reads; printed = A.printed; step_of = A.step_of }) (shown command.now) (known_of (shown command.now) (F.holds files.old)) text.items) }
-    ensures cause { IfErr result (λ ending. HasCause (record { isa = A.isa; reads = A.reads; printed = A.printed; step_of = A.step_of }) (shown command.now) (known_of (shown command.now) (F.holds files.old)) (record {
-      faults_before = F.faults files.old;
-      faults_after = F.faults files.new;
-      given = F.given files.new;
-      chosen = F.chosen files.new;
-      broken = F.broken files.new;
-    }) ending) }
+    ensures text { IfOk result (λ text. HasText A.language (shown command.now)
+        (known_of (shown command.now) (F.holds files.old)) text.items) }
+    ensures cause { IfErr result (λ ending. HasCause A.language (shown command.now)
+        (known_of (shown command.now) (F.holds files.old))
+        (files_run F.faults F.given F.chosen F.broken files.old files.new) ending) }
 {
     match file_region(arch, alloc, command.task.wants(), bytes) {
         Ok(region) => text_of_region(arch, alloc, command.task, &region, files),
@@ -177,17 +169,13 @@ pub fn text_of_file<A: Arch, F: Files>(
     files: &mut F,
 ) -> Result<Vec<u8>, Ending>
     requires least { HasLatency (shown_task command.now.task) }
-    requires printable { IsPrintable A.reads A.printed }
     ensures same_files { F.holds files.new ≡ F.holds files.old }
     ensures never_falls { F.faults files.old ≤ F.faults files.new }
-    ensures text { IfOk result (λ text. HasText (record { isa = A.isa; reads = A.reads; printed = A.printed; step_of = A.step_of }) (shown command.now) (known_of (shown command.now) (F.holds files.old)) text.items) }
-    ensures cause { IfErr result (λ ending. HasCause (record { isa = A.isa; reads = A.reads; printed = A.printed; step_of = A.step_of }) (shown command.now) (known_of (shown command.now) (F.holds files.old)) (record {
-      faults_before = F.faults files.old;
-      faults_after = F.faults files.new;
-      given = F.given files.new;
-      chosen = F.chosen files.new;
-      broken = F.broken files.new;
-    }) ending) }
+    ensures text { IfOk result (λ text. HasText A.language (shown command.now)
+        (known_of (shown command.now) (F.holds files.old)) text.items) }
+    ensures cause { IfErr result (λ ending. HasCause A.language (shown command.now)
+        (known_of (shown command.now) (F.holds files.old))
+        (files_run F.faults F.given F.chosen F.broken files.old files.new) ending) }
 {
     match read_all(alloc, files, command.name, FILE_BYTES) {
         Ok(bytes) => text_of_bytes(arch, alloc, command, &bytes, files),

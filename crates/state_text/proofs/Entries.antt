@@ -4,11 +4,12 @@ use Rattle.std.specs.Prelude.{option_and_then}
 use Rattle.std.proofs.Math.Seq.{take-length}
 use Rattle.sl_model.specs.declared.instruction.ArchName.{ArchName}
 use Rattle.sl_model.specs.State.{State}
-use Rattle.sl_model.specs.StateText.{hex_value, with_byte, with_bytes}
+use Rattle.state_text.specs.StateText.{with_byte, with_bytes}
 use Rattle.state_text.specs.Steps.{with_pair}
 use Rattle.state_text.specs.Views.{Enters}
 use Rattle.state_text.specs.declared.reader.EntryErr.{EntryErr}
 use Rattle.state_text.specs.declared.reader.EntryErr.TheVariants.{Bad, NoMemory}
+use Rattle.sl_model.specs.Digits.{digit_of}
 
 and_then : {A B C : Type 0} (f : B → Option C) (g : A → Option B) (o : Option A) → option_and_then (λ x. option_and_then f (g x)) o ≡ option_and_then f (option_and_then g o)
 and_then f g None = refl
@@ -18,8 +19,8 @@ and_then f g (Some x) = refl
 bytes_step : (arch : ArchName) (address c d : ℕ) (text : List ℕ) (s : State) → with_bytes arch address (c ∷ d ∷ text) s ≡ option_and_then (λ t. with_bytes arch (address + 1) text t) (with_pair arch address c d s)
 unfolding with_bytes with_pair
 bytes_step arch address c d text s =
-    ap (λ f. option_and_then f (hex_value c)) (λ i high. and_then (λ t. with_bytes arch (address + 1) text t) (λ low. with_byte arch address (16 * high + low) s) (hex_value d) i)
-    ∙ and_then (λ t. with_bytes arch (address + 1) text t) (λ high. option_and_then (λ low. with_byte arch address (16 * high + low) s) (hex_value d)) (hex_value c)
+    ap (λ f. option_and_then f (digit_of 16 c)) (λ i high. and_then (λ t. with_bytes arch (address + 1) text t) (λ low. with_byte arch address (16 * high + low) s) (digit_of 16 d) i)
+    ∙ and_then (λ t. with_bytes arch (address + 1) text t) (λ high. option_and_then (λ low. with_byte arch address (16 * high + low) s) (digit_of 16 d)) (digit_of 16 c)
 
 take_all : (n : ℕ) (text : List ℕ) → n ≡ length text → take n text ≡ text
 take_all n text e = ap (λ m. take m text) e ∙ take-length text

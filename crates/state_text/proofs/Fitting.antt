@@ -1,5 +1,5 @@
 -- A state that is read fits its architecture.
-use Rattle.std.proofs.Common.{◌≡◌, ℕ, ◌+◌, ◌*◌, ◌<◌, true, false, cond, ltb, List, [], ◌∷◌, length, Option, None, Some, Result, Ok, refl, sym, subst, arith, lit<}
+use Rattle.std.proofs.Common.{◌≡◌, ℕ, ◌+◌, ◌*◌, ◌<◌, true, false, cond, ltb, List, [], ◌∷◌, length, Option, None, Some, Result, Ok, refl, subst, arith, lit<}
 use Rattle.std.specs.Prelude.{is_some, option_and_then, slice_index, ◌==◌}
 use Rattle.std.specs.Char.{digit_value}
 use Rattle.std.specs.Str.{bytes_eq}
@@ -16,9 +16,11 @@ use Rattle.sl_model.specs.State.{State, reg_key, write, put}
 use Rattle.sl_model.specs.Isa.{Isa}
 use Rattle.sl_model.specs.Lawful.{IsLawful}
 use Rattle.sl_model.specs.Text.{numbered_lines}
-use Rattle.sl_model.specs.StateText.{hex_value, digits_number, below, behind, number_below, bit_value, flags_value, value_below, register_named, first_word, is_passed, with_register, with_byte, with_bytes, with_memory, with_some_bytes, with_value, with_entry, with_line, with_lines, going_on, read_state}
+use Rattle.state_text.specs.StateText.{below, behind, number_below, bit_value, flags_value, value_below, first_word, is_passed, with_register, with_byte, with_bytes, with_memory, with_some_bytes, with_value, with_entry, with_line, with_lines, going_on, read_state}
+use Rattle.sl_model.specs.RegisterNames.{register_named}
 use Rattle.machine_sem.specs.Fits.{Fits}
-use Rattle.machine_sem.proofs.Fitting.{new_fits, write_fits, put_fits}
+use Rattle.machine_sem.proofs.ForCallers.{new_fits, write_fits, put_fits}
+use Rattle.sl_model.specs.Digits.{digit_of, some_digits}
 
 -- what an answer is, if there is one
 record Gives {A : Type 0} (o : Option A) (P : A → Type 0) : Type 0 where
@@ -42,10 +44,9 @@ below_small limit n = elim (ltb n limit) as (λ b. ltb n limit ≡ b → Gives (
 
 number_small : (limit : ℕ) (text : List ℕ) → Gives (number_below limit text) (λ v. v < limit)
 unfolding number_below
-number_small limit text = after (behind (48 ∷ 120 ∷ []) text) (λ digits _. after (digits_number digits) (λ n _. below_small limit n))
+number_small limit text = after (behind (48 ∷ 120 ∷ []) text) (λ digits _. after (some_digits 16 digits) (λ n _. below_small limit n))
 
-hex_small : (c : ℕ) → Gives (hex_value c) (λ v. v < 16)
-unfolding hex_value
+hex_small : (c : ℕ) → Gives (digit_of 16 c) (λ v. v < 16)
 hex_small c = below_small 16 (digit_value c)
 
 bit_small : (c : ℕ) → Gives (bit_value c) (λ v. v < 2)
@@ -86,7 +87,7 @@ module _ (isa : Isa) (lawful : IsLawful isa) where
   unfolding with_register
   register_fits r value s small fits = elim (is_some (get s.regs (reg_key r))) as (λ b. Gives (cond b None (Some (write r value s))) (Fits isa)) [
     | true ↦ none
-    | false ↦ one (write r value s) (write_fits isa lawful r value s (subst (λ limit. value < limit) (sym (lawful.limits r.bank)) small) fits)
+    | false ↦ one (write r value s) (write_fits isa lawful r value s small fits)
   ]
 
   value_fits : (name text : List ℕ) (s : State) → Fits isa s → Gives (with_value isa.name name text s) (Fits isa)
@@ -102,7 +103,7 @@ module _ (isa : Isa) (lawful : IsLawful isa) where
       elim (ltb address (space_of isa.name)) as (λ b. ltb address (space_of isa.name) ≡ b → Gives (cond b (cond (is_some (get s.memory address)) None (Some more)) None) (Fits isa)) [
         | true ↦ λ e. elim (is_some (get s.memory address)) as (λ b. Gives (cond b None (Some more)) (Fits isa)) [
           | true ↦ none
-          | false ↦ one more (put_fits isa lawful address value s (subst (λ space. address < space) (sym lawful.spaces) (ltb-true _ _ e)) small fits)
+          | false ↦ one more (put_fits isa lawful address value s (ltb-true _ _ e) small fits)
         ]
         | false ↦ λ e. none
       ] refl

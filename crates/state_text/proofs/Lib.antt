@@ -1,5 +1,4 @@
 pub mod Numbers
-pub mod Registers
 pub mod Entries
 pub mod Reading
 pub mod Fitting

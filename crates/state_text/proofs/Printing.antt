@@ -7,7 +7,8 @@ use Rattle.sl_model.specs.declared.register.Bank.TheVariants.{Vector, Flags, Sta
 use Rattle.sl_model.specs.declared.register.Reg.{Reg}
 use Rattle.sl_model.specs.declared.instruction.ArchName.{ArchName}
 use Rattle.sl_model.specs.State.{State}
-use Rattle.sl_model.specs.StateText.{register_in, registers_from, general_registers, other_registers, hex_digits, register_text, registers_text, bytes_start, byte_text, room_behind, bytes_behind, bytes_text, state_text}
+use Rattle.sl_model.specs.RegisterNames.{register_in, registers_from, general_registers, other_registers}
+use Rattle.state_text.specs.StateText.{hex_digits, register_text, registers_text, bytes_start, byte_text, room_behind, bytes_behind, bytes_text, state_text}
 
 pub digits_none : (count number : ℕ) → count ≡ 0 → hex_digits count number ≡ []
 unfolding hex_digits

@@ -1,3 +1,4 @@
+pub mod StateText
 pub mod Steps
 pub mod Views
 pub mod Running

@@ -6,7 +6,8 @@ use Rattle.state_text.specs.declared.reader.EntryErr.TheVariants as entry
 use Rattle.state_text.specs.declared.reader.StateErr.{StateErr}
 use Rattle.state_text.specs.declared.reader.StateErr.TheVariants as error
 
--- An entry was put in a state: the state is the definition's, or the entry is bad by the definition, or no memory was found.
+-- An entry was put in a state: the state is the definition's, or the entry is bad by the
+-- definition, or no memory was found.
 abbrev pub Enters : Result (Unit {0}) EntryErr → Option State → State → Type 0
 Enters (Ok _) wanted new = wanted ≡ Some new
 Enters (Err entry.Bad) wanted new = wanted ≡ None
@@ -18,8 +19,7 @@ EntersLine number (Ok _) wanted new = wanted ≡ Some new
 EntersLine number (Err (error.StateBad line)) wanted new = (wanted ≡ None) × (line ≡ number)
 EntersLine number (Err error.NoMemory) wanted new = Unit {0}
 
--- what reading a state answers: what the definition says, or that no memory was found
-abbrev pub Answers : Result State StateErr → Result State ℕ → Type 0
-Answers (Ok s) wanted = wanted ≡ Ok s
-Answers (Err (error.StateBad line)) wanted = wanted ≡ Err line
-Answers (Err error.NoMemory) wanted = Unit {0}
+-- the bad line that a failure tells, and nothing for want of memory
+abbrev pub line_of : StateErr → Option ℕ
+line_of (error.StateBad line) = Some line
+line_of error.NoMemory = None

@@ -2,12 +2,9 @@
 #![tactic(auto)]
 
 mod digits;
-mod names;
 mod printer;
 mod reader;
 mod running;
-#[cfg(test)]
-mod tests;
 
 pub use machine_sem::State;
 pub use printer::print_state;

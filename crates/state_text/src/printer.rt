@@ -2,12 +2,12 @@
 ghost use Rattle.std.specs.Prelude.{◌≡◌, ◌+◌, ◌<◌, ◌≤◌, ◌++◌, ◌^◌, ◌/◌, ◌%◌, OnOk, OnErr, IfOk};
 ghost use Rattle.std.specs.Char.{digit_char};
 ghost use Rattle.std.specs.FinMap.{entries};
-ghost use Rattle.sl_model.specs.StateText as spec;
+ghost use Rattle.state_text.specs.StateText as spec;
+ghost use Rattle.sl_model.specs.RegisterNames as names;
 
-use crate::names::{push_name, register_in};
 use machine_sem::State;
 use sl_base::{NoMemory, append};
-use sl_isa::{ArchName, Bank, Reg};
+use sl_isa::{ArchName, Bank, Reg, push_name, register_in};
 
 // A hexadecimal digit in lower case.
 fn hex_digit(value: u8) -> u8
@@ -62,7 +62,7 @@ fn bit_digit(flags: u128, place: u32) -> u8
 }
 
 // Adds the value of a register of a bank.
-#[tactic(auto, unfolding(sl_model::specs::StateText::value_text))]
+#[tactic(auto, unfolding(crate::specs::StateText::value_text))]
 fn push_value(out: &mut Vec<u8>, arch: ArchName, bank: Bank, value: u128) -> Result<(), NoMemory>
     ensures { OnOk result (out.new.items ≡ out.old.items ++ spec.value_text arch bank value) }
 {
@@ -82,14 +82,15 @@ fn push_value(out: &mut Vec<u8>, arch: ArchName, bank: Bank, value: u128) -> Res
 }
 
 // Adds the line of a register, if it was set.
-#[tactic(auto, unfolding(sl_model::specs::StateText::register_text))]
+#[tactic(auto, unfolding(crate::specs::StateText::register_text))]
 fn push_register(
     out: &mut Vec<u8>,
     arch: ArchName,
     state: &State,
     register: Reg,
 ) -> Result<(), NoMemory>
-    ensures { OnOk result (out.new.items ≡ out.old.items ++ spec.register_text arch register state.now) }
+    ensures { OnOk result
+        (out.new.items ≡ out.old.items ++ spec.register_text arch register state.now) }
 {
     if state.kept(register).is_none() {
         return Ok(());
@@ -110,7 +111,9 @@ fn push_registers_from(
     count: u16,
 ) -> Result<(), NoMemory>
     requires { first + count < 65536 }
-    ensures { OnOk result (out.new.items ≡ out.old.items ++ spec.registers_text arch (spec.registers_from bank first count) state.now) }
+    ensures { OnOk result
+        (out.new.items ≡ out.old.items
+        ++ spec.registers_text arch (names.registers_from bank first count) state.now) }
 {
     if count == 0 {
         return Ok(());
@@ -120,9 +123,11 @@ fn push_registers_from(
 }
 
 // Adds the lines of the general registers.
-#[tactic(auto, unfolding(sl_model::specs::StateText::general_registers))]
+#[tactic(auto, unfolding(sl_model::specs::RegisterNames::general_registers))]
 fn push_general(out: &mut Vec<u8>, arch: ArchName, state: &State) -> Result<(), NoMemory>
-    ensures { OnOk result (out.new.items ≡ out.old.items ++ spec.registers_text arch (spec.general_registers arch) state.now) }
+    ensures { OnOk result
+        (out.new.items ≡ out.old.items
+        ++ spec.registers_text arch (names.general_registers arch) state.now) }
 {
     match arch {
         ArchName::Arm64 => push_registers_from(out, arch, state, Bank::General, 0, 31),
@@ -136,7 +141,9 @@ fn push_general(out: &mut Vec<u8>, arch: ArchName, state: &State) -> Result<(), 
 // Adds the lines of the stack pointer, the vector registers and the flags.
 #[tactic(auto, using(crate::proofs::Printing::others_are))]
 fn push_others(out: &mut Vec<u8>, arch: ArchName, state: &State) -> Result<(), NoMemory>
-    ensures { OnOk result (out.new.items ≡ out.old.items ++ spec.registers_text arch spec.other_registers state.now) }
+    ensures { OnOk result
+        (out.new.items ≡ out.old.items
+        ++ spec.registers_text arch names.other_registers state.now) }
 {
     push_registers_from(out, arch, state, Bank::Stack, 0, 1)?;
     push_registers_from(out, arch, state, Bank::Vector, 0, 32)?;
@@ -157,7 +164,7 @@ fn address_count(arch: ArchName) -> u32
 }
 
 // Adds the begin of a line of bytes, with the first one.
-#[tactic(auto, unfolding(sl_model::specs::StateText::bytes_start))]
+#[tactic(auto, unfolding(crate::specs::StateText::bytes_start))]
 fn push_start(out: &mut Vec<u8>, arch: ArchName, address: u64, byte: u8) -> Result<(), NoMemory>
     ensures { OnOk result (out.new.items ≡ out.old.items ++ spec.bytes_start arch (address, byte)) }
 {
@@ -190,7 +197,7 @@ fn goes_on(row: Row, address: u64) -> bool
 }
 
 // Adds a byte behind a line.
-#[tactic(auto, unfolding(sl_model::specs::StateText::byte_text))]
+#[tactic(auto, unfolding(crate::specs::StateText::byte_text))]
 fn push_byte(
     out: &mut Vec<u8>,
     arch: ArchName,
@@ -198,7 +205,8 @@ fn push_byte(
     address: u64,
     byte: u8,
 ) -> Result<(), NoMemory>
-    ensures { OnOk result (out.new.items ≡ out.old.items ++ spec.byte_text arch row.room row.next (address, byte)) }
+    ensures { OnOk result
+        (out.new.items ≡ out.old.items ++ spec.byte_text arch row.room row.next (address, byte)) }
 {
     if goes_on(row, address) {
         return push_hex(out, 2, u128::from(byte));
@@ -225,7 +233,8 @@ fn row_behind(row: Row, address: u64) -> Row
 
 // Adds the lines of bytes.
 fn push_bytes(out: &mut Vec<u8>, arch: ArchName, state: &State) -> Result<(), NoMemory>
-    ensures { OnOk result (out.new.items ≡ out.old.items ++ spec.bytes_text arch (entries state.now.memory)) }
+    ensures { OnOk result
+        (out.new.items ≡ out.old.items ++ spec.bytes_text arch (entries state.now.memory)) }
 {
     let mut bytes = state.bytes();
     let Some((address, byte)) = bytes.next() else {
@@ -244,7 +253,7 @@ fn push_bytes(out: &mut Vec<u8>, arch: ArchName, state: &State) -> Result<(), No
 }
 
 // Adds a state.
-#[tactic(auto, using(crate::proofs::Printing::registers_in_two), unfolding(sl_model::specs::StateText::state_text))]
+#[tactic(auto, using(crate::proofs::Printing::registers_in_two), unfolding(crate::specs::StateText::state_text))]
 fn push_state(out: &mut Vec<u8>, arch: ArchName, state: &State) -> Result<(), NoMemory>
     ensures { OnOk result (out.new.items ≡ out.old.items ++ spec.state_text arch state.now) }
 {
@@ -253,8 +262,8 @@ fn push_state(out: &mut Vec<u8>, arch: ArchName, state: &State) -> Result<(), No
     push_bytes(out, arch, state)
 }
 
-/// Adds the text of a state to `out`: a line for each register of the machine that was set, and lines of at most 16
-/// bytes. After `NoMemory` nothing has changed.
+/// Adds the text of a state to `out`: a line for each register of the machine that was set, and
+/// lines of at most 16 bytes. After `NoMemory` nothing has changed.
 pub fn print_state(arch: ArchName, state: &State, out: &mut Vec<u8>) -> Result<(), NoMemory>
     ensures ok { OnOk result (out.new.items ≡ out.old.items ++ spec.state_text arch state.now) }
     ensures err { OnErr result (out.new.items ≡ out.old.items) }

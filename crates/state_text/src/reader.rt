@@ -5,23 +5,24 @@ ghost use Rattle.sl_model.specs.Text.{skip_blanks};
 ghost use Rattle.sl_model.specs.Machine.{space_of, limit_of};
 ghost use Rattle.sl_model.specs.Isa.{Isa};
 ghost use Rattle.sl_model.specs.Lawful.{IsLawful};
-ghost use Rattle.sl_model.specs.StateText as spec;
+ghost use Rattle.state_text.specs.StateText as spec;
 ghost use Rattle.machine_sem.specs.Fits.{Fits};
 ghost use Rattle.state_text.specs.Steps.{with_pair};
-ghost use Rattle.state_text.specs.Views.{Enters, EntersLine, Answers};
+ghost use Rattle.state_text.specs.Views.{Enters, EntersLine, line_of};
+ghost use Rattle.sl_model.specs.Answers.{Gives};
 
-use crate::digits::{behind, hex_value, read_number};
-use crate::names::register_named;
+use crate::digits::{behind, read_number};
 use machine_sem::State;
-use sl_isa::{ArchName, Bank, Reg};
-use sl_text::{Line, lines};
+use sl_isa::{ArchName, Bank, Reg, register_named};
+use sl_text::{Line, digit_of, lines};
 use std::alloc::Global;
 
 /// Why no state was read.
 #[derive(Clone, Copy, Debug, PartialEq, Eq)]
 pub enum StateErr {
-    /// The line with this number, counted from 1, is no line of a state file: it has another shape, a value or an
-    /// address that is too large, or a register or a byte that an earlier line has, or the same one.
+    /// The line with this number, counted from 1, is no line of a state file: it has another
+    /// shape, a value or an address that is too large, or a register or a byte that an
+    /// earlier line has, or the same one.
     StateBad { line: u32 },
     /// No memory was found.
     NoMemory,
@@ -37,7 +38,7 @@ pub enum EntryErr {
 }
 
 // What stands before the first space of a text, and what stands behind it.
-#[tactic(auto, unfolding(sl_model::specs::StateText::first_word))]
+#[tactic(auto, unfolding(crate::specs::StateText::first_word))]
 fn first_word(text: &[u8]) -> Option<(&[u8], &[u8])>
     ensures { MatchOption result (spec.first_word text.now ≡ None)
         (λ words. spec.first_word text.now ≡ Some (words.0.now, words.1.now)) }
@@ -88,7 +89,7 @@ fn bit_value(digit: u8) -> Option<u128>
 }
 
 // The flags by four digits.
-#[tactic(auto, unfolding(sl_model::specs::StateText::flags_value))]
+#[tactic(auto, unfolding(crate::specs::StateText::flags_value))]
 fn read_flags(digits: &[u8]) -> Option<u128>
     ensures { result ≡ spec.flags_value digits.now }
 {
@@ -103,7 +104,7 @@ fn read_flags(digits: &[u8]) -> Option<u128>
 }
 
 // The value of a register of a bank.
-#[tactic(auto, unfolding(sl_model::specs::StateText::value_below))]
+#[tactic(auto, unfolding(crate::specs::StateText::value_below))]
 fn read_value(arch: ArchName, bank: Bank, text: &[u8]) -> Option<u128>
     ensures { result ≡ spec.value_below (limit_of arch bank) bank text.now }
 {
@@ -117,7 +118,7 @@ fn read_value(arch: ArchName, bank: Bank, text: &[u8]) -> Option<u128>
 }
 
 // Gives a register a value that has none yet.
-#[tactic(auto, unfolding(sl_model::specs::StateText::with_register))]
+#[tactic(auto, unfolding(crate::specs::StateText::with_register))]
 fn enter_register(state: &mut State, register: Reg, value: u128) -> Result<(), EntryErr>
     ensures { Enters result (spec.with_register register value state.old) state.new }
 {
@@ -131,7 +132,7 @@ fn enter_register(state: &mut State, register: Reg, value: u128) -> Result<(), E
 }
 
 // Puts an entry of a register in a state.
-#[tactic(auto, unfolding(sl_model::specs::StateText::with_value))]
+#[tactic(auto, unfolding(crate::specs::StateText::with_value))]
 fn enter_value(state: &mut State, arch: ArchName, name: &[u8], text: &[u8]) -> Result<(), EntryErr>
     ensures { Enters result (spec.with_value arch name.now text.now state.old) state.new }
 {
@@ -161,7 +162,7 @@ fn largest_address(arch: ArchName) -> u128
 }
 
 // Puts a byte at an address of the machine that has none yet.
-#[tactic(auto, unfolding(sl_model::specs::StateText::with_byte))]
+#[tactic(auto, unfolding(crate::specs::StateText::with_byte))]
 fn enter_byte(state: &mut State, arch: ArchName, address: u128, value: u8) -> Result<(), EntryErr>
     ensures enters { Enters result (spec.with_byte arch address value state.old) state.new }
     ensures within { OnOk result (address < 2 ^ 64) }
@@ -190,10 +191,10 @@ fn enter_pair(
     ensures enters { Enters result (with_pair arch address digits.0 digits.1 state.old) state.new }
     ensures within { OnOk result (address < 2 ^ 64) }
 {
-    let Some(high) = hex_value(digits.0) else {
+    let Some(high) = digit_of(16, digits.0) else {
         return Err(EntryErr::Bad);
     };
-    let Some(low) = hex_value(digits.1) else {
+    let Some(low) = digit_of(16, digits.1) else {
         return Err(EntryErr::Bad);
     };
     enter_byte(state, arch, address, 16 * high + low)
@@ -223,7 +224,7 @@ fn enter_bytes(
 }
 
 // Puts an entry of memory in a state.
-#[tactic(auto, unfolding(sl_model::specs::StateText::with_memory))]
+#[tactic(auto, unfolding(crate::specs::StateText::with_memory))]
 fn enter_memory(state: &mut State, arch: ArchName, text: &[u8]) -> Result<(), EntryErr>
     ensures { Enters result (spec.with_memory arch text.now state.old) state.new }
 {
@@ -245,7 +246,7 @@ fn enter_memory(state: &mut State, arch: ArchName, text: &[u8]) -> Result<(), En
 // ---- lines
 
 // Puts an entry in a state.
-#[tactic(auto, unfolding(sl_model::specs::StateText::with_entry))]
+#[tactic(auto, unfolding(crate::specs::StateText::with_entry))]
 fn enter(state: &mut State, arch: ArchName, line: &[u8]) -> Result<(), EntryErr>
     ensures { Enters result (spec.with_entry arch line.now state.old) state.new }
 {
@@ -259,7 +260,7 @@ fn enter(state: &mut State, arch: ArchName, line: &[u8]) -> Result<(), EntryErr>
 }
 
 // Whether a line is passed over: nothing but blanks, or a comment.
-#[tactic(auto, unfolding(sl_model::specs::StateText::is_passed))]
+#[tactic(auto, unfolding(crate::specs::StateText::is_passed))]
 fn is_passed(line: &[u8]) -> bool
     ensures { result ≡ spec.is_passed line.now }
 {
@@ -279,9 +280,10 @@ fn is_blank(line: &[u8]) -> bool
 }
 
 // Puts what a line says in a state.
-#[tactic(auto, unfolding(sl_model::specs::StateText::with_line))]
+#[tactic(auto, unfolding(crate::specs::StateText::with_line))]
 fn enter_line(state: &mut State, arch: ArchName, line: Line<'_>) -> Result<(), StateErr>
-    ensures { EntersLine line.entry.number result (spec.with_line arch line.entry.text.now state.old) state.new }
+    ensures { EntersLine line.entry.number result
+        (spec.with_line arch line.entry.text.now state.old) state.new }
 {
     let text = line.text.as_bytes();
     if is_passed(text) {
@@ -297,7 +299,7 @@ fn enter_line(state: &mut State, arch: ArchName, line: Line<'_>) -> Result<(), S
 /// Reads a state file for an architecture. The state that is read fits the architecture.
 pub fn read_state(alloc: Global, arch: ArchName, text: &str) -> Result<State, StateErr>
     requires { length text.now < 2 ^ 31 }
-    ensures read { Answers result (spec.read_state arch text.now) }
+    ensures read { Gives line_of (λ s. s) result (spec.read_state arch text.now) }
     ensures fits { IfOk result (λ s. (isa : Isa) → IsLawful isa → isa.name ≡ arch → Fits isa s) }
 {
     let mut state = State::new(alloc);

@@ -1,11 +1,11 @@
 use Rattle.std.proofs.Common.{ℕ, ◌<◌, length, rules}
 use Rattle.sl_model.specs.Source.{item_at}
 use Rattle.sl_model.specs.Lawful.{IsValid}
-use Rattle.asm_printer.proofs.PrintedText.{valid-rest}
+use Rattle.sl_laws.proofs.Valid.{valid-rest}
 use Rattle.asm_printer.proofs.print.+push_items.Goals as goal
 
 pub push_items-requires : goal.push_items-requires
 push_items-requires g t c =
-    let rest : (p : ℕ) → p < length c.in-Some.items.now → IsValid g.A.Arch.isa (item_at c.in-Some.items.now p) =
-    valid-rest g.A.Arch.isa c.in-Some.item.now c.in-Some.items.now c.args.items.now c.in-Some.ensures.cases.0 c.requires in
+    let rest : (p : ℕ) → p < length c.in-Some.items.now → IsValid g.A.Arch.language.isa (item_at c.in-Some.items.now p) =
+    valid-rest g.A.Arch.language.isa c.in-Some.item.now c.in-Some.items.now c.args.items.now c.in-Some.ensures.cases.0 c.requires in
     search rules

@@ -1,5 +1,5 @@
 use Rattle.std.proofs.Common.{◌∙◌}
-use Rattle.sl_text.proofs.TokenLemmas.{open_behind_same, open_behind_end}
+use Rattle.sl_text.proofs.ForCallers.{open_behind_same, open_behind_end}
 use Rattle.asm_reader.proofs.items.is_open_behind.Goals as goal
 
 pub loop-preserved : goal.loop-preserved

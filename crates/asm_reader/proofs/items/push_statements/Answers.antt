@@ -1,13 +1,15 @@
 use Rattle.std.proofs.Common.{◌≡◌, ◌+◌, length, ap, sym, ◌∙◌, subst, arith}
 use Rattle.std.proofs.lemmas.Result.{err_from_is_err_and}
-use Rattle.asm_reader.specs.Views.{lexemes, Refuses}
+use Rattle.asm_reader.specs.Views.{lexemes, refusal_of}
+use Rattle.sl_model.specs.Answers.{Refuses}
 use Rattle.asm_reader.specs.Reading.{with_statements}
-use Rattle.asm_reader.proofs.Steps.{statements_of, first_of, fewer_left, left_of, no_statements, statement_fails, statement_read}
+use Rattle.asm_reader.proofs.Steps.{statements_of, first_of, fewer_left, left_of, statement_fails}
+use Rattle.asm_reader.proofs.ForCallers.{no_statements, statement_read}
 use Rattle.asm_reader.proofs.items.push_statements.Goals as goal
 
 pub loop-rest-preserved : goal.loop-rest-preserved
 loop-rest-preserved g c =
-    let reads = g.A.Arch.reads in
+    let reads = g.A.Arch.language.reads in
     let first = lexemes c.first_statement.result.0.now in
     let behind = c.first_statement.result.1 in
     let items = c.loop-rest.items.items in
@@ -24,17 +26,17 @@ loop-rest-smaller g c =
 pub returns-in_err-push_statement : goal.returns-in_err-push_statement
 returns-in_err-push_statement g c =
     let p = err_from_is_err_and c.from_residual.result c.from_residual.ensures.1 in
-    let reads = g.A.Arch.reads in
+    let reads = g.A.Arch.language.reads in
     let first = lexemes c.first_statement.result.0.now in
     let behind = c.first_statement.result.1 in
     let items = c.loop-rest.items.items in
     let failure = c.in_err-push_statement.field-0.0 in
     let all = ap (with_statements reads c.args.manner.wants c.args.line items) (sym (ap statements_of c.in-Some.is ∙ first_of _ first behind c.first_statement.ensures.first)) ∙ c.loop-rest.invariant in
-    rw (p.1, p.2) (subst (Refuses failure) all (statement_fails reads c.args.manner.wants c.args.line items first (statements_of behind) failure c.in_err-push_statement.ensures))
+    rw (p.1, p.2) (subst (Refuses (refusal_of failure)) all (statement_fails reads c.args.manner.wants c.args.line items first (statements_of behind) failure c.in_err-push_statement.ensures))
 
 pub returns : goal.returns
 returns g c =
-    let reads = g.A.Arch.reads in
+    let reads = g.A.Arch.language.reads in
     let items = c.loop-rest.items.items in
     sym c.loop-rest.invariant ∙ ap (λ rest. with_statements reads c.args.manner.wants c.args.line items (statements_of rest)) c.in_default.is
     ∙ no_statements reads c.args.manner.wants c.args.line items

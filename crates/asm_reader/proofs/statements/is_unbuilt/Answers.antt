@@ -1,7 +1,8 @@
 use Rattle.std.proofs.Common.{◌≡◌, false, cond, true, ap, sym, ◌∙◌}
 use Rattle.std.specs.List.{list_any}
 use Rattle.sl_text.specs.Tokens.{token_value}
-use Rattle.asm_reader.specs.Statements.{begins_unbuilt, is_later_name, is_mark, mnemonic}
+use Rattle.asm_reader.specs.Statements.{begins_unbuilt, is_later_name, mnemonic}
+use Rattle.sl_model.specs.TokenTests.{marks}
 use Rattle.asm_reader.specs.Views.{lexemes}
 use Rattle.asm_reader.proofs.Tokens.{any_map}
 use Rattle.asm_reader.proofs.statements.is_unbuilt.Goals as goal
@@ -12,6 +13,6 @@ returns c =
     let words = lexemes tokens in
     let begins : begins_unbuilt words ≡ false = sym c.begins_unbuilt.ensures ∙ c.if-begins_unbuilt.false in
     let name : is_later_name (mnemonic words) ≡ false = ap is_later_name (sym c.in_ok-name.ensures ∙ sym c.deref.ensures.value) ∙ sym c.is_later_name.ensures ∙ c.if-is_later_name.false in
-    c.has_symbol.ensures ∙ sym (any_map (is_mark 60) token_value tokens)
-    ∙ ap (λ b. cond b true (list_any (is_mark 60) words)) (sym name)
-    ∙ ap (λ b. cond b true (cond (is_later_name (mnemonic words)) true (list_any (is_mark 60) words))) (sym begins)
+    c.has_symbol.ensures ∙ sym (any_map (marks 60) token_value tokens)
+    ∙ ap (λ b. cond b true (list_any (marks 60) words)) (sym name)
+    ∙ ap (λ b. cond b true (cond (is_later_name (mnemonic words)) true (list_any (marks 60) words))) (sym begins)

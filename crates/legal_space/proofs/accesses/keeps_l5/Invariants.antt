@@ -6,5 +6,5 @@ use Rattle.legal_space.proofs.accesses.keeps_l5.Given as goal
 
 abbrev pub invariant-loop-other : goal.invariant-loop-other
 invariant-loop-other g l =
-    list_all (λ p. not (conflict g.A.Arch.isa (body_of l.problem) p l.choice.item) || is_placed (reverse l.done) p) (above l.choice.item (drop l.other-index l.order))
-    ≡ list_all (λ p. not (conflict g.A.Arch.isa (body_of l.problem) p l.choice.item) || is_placed (reverse l.done) p) (above l.choice.item l.order)
+    list_all (λ p. not (conflict g.A.Arch.language.isa (body_of l.problem) p l.choice.item) || is_placed (reverse l.done) p) (above l.choice.item (drop l.other-index l.order))
+    ≡ list_all (λ p. not (conflict g.A.Arch.language.isa (body_of l.problem) p l.choice.item) || is_placed (reverse l.done) p) (above l.choice.item l.order)

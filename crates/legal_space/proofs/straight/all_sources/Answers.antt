@@ -2,8 +2,9 @@ use Rattle.std.proofs.Common.{◌≡◌, ℕ, ◌≤◌, List, [], ◌∷◌, �
 use Rattle.std.proofs.lemmas.List.{map-append}
 use Rattle.sl_model.specs.declared.schedule.Source.{Source}
 use Rattle.sl_model.specs.Source.{list_sources}
-use Rattle.legal_space.proofs.StraightLemmas.{numbers-none, map_numbers-next, few-more}
+use Rattle.legal_space.proofs.StraightLemmas.{few-more}
 use Rattle.legal_space.proofs.straight.all_sources.Goals as goal
+use Rattle.sl_laws.proofs.Numbers.{map_numbers-next, numbers-none}
 
 pub loop-place-init : goal.loop-place-init
 loop-place-init c =

@@ -1,6 +1,6 @@
 use Rattle.std.proofs.Common.{◌≡◌, List, ℕ, [], ◌∷◌, ◌++◌, ap, sym, ◌∙◌, rules}
-use Rattle.legal_space.proofs.StraightLemmas.{numbers-none, numbers-next}
 use Rattle.legal_space.proofs.straight.numbers_below.Goals as goal
+use Rattle.sl_laws.proofs.Numbers.{numbers-next, numbers-none}
 
 pub loop-number-init : goal.loop-number-init
 loop-number-init c = c.new-numbers.ensures.items ∙ sym numbers-none

@@ -5,10 +5,11 @@ use Rattle.sl_model.specs.declared.schedule.Source.{Source}
 use Rattle.sl_model.specs.Cycles.{CostTable, Issued, issued, issued_from, timed, timed_from, cycles_of, next_cycle, ready_from, row_of}
 use Rattle.sl_model.specs.Legal.{sources_in}
 use Rattle.issue_cost.specs.Timeline.{IsFreeBy, Timeline}
-use Rattle.issue_cost.proofs.IssueRule.{IsFreeBy-weaken}
+use Rattle.issue_cost.proofs.ForCallers.{IsFreeBy-weaken}
 use Rattle.legal_space.specs.Above.{HasCycles}
-use Rattle.legal_space.proofs.TimesLemmas.{has_cycles-none, early-none, has_cycles-more, early-more, next_issued, choices-more, timed-more, timed-done, item-known}
+use Rattle.legal_space.proofs.TimesLemmas.{has_cycles-none, early-none, has_cycles-more, early-more, next_issued, timed-more, timed-done, item-known}
 use Rattle.legal_space.proofs.times.issue_all.Goals as goal
+use Rattle.sl_laws.proofs.Elements.{reverse_take-more}
 
 pub loop-choice-init : goal.loop-choice-init
 unfolding issued_from
@@ -75,7 +76,7 @@ loop-choice-preserved c =
       pushes = pushed ∙ ap (λ n. n + 1) c.loop-choice.invariant.pushes;
       room = ap (λ (v : Timeline). v.room) c.push-cycle.ensures.pushed ∙ c.loop-choice.invariant.room;
       items = length-set latest c.from.result cycle ∙ c.loop-choice.invariant.items;
-      has = subst (λ choices. HasCycles next choices more) (sym (choices-more schedule k d c.loop-choice-test.true))
+      has = subst (λ choices. HasCycles next choices more) (sym (reverse_take-more schedule k d c.loop-choice-test.true))
           (subst (λ all. HasCycles next (choice ∷ before) all) (sym one_more)
           (has_cycles-more latest next before done choice (next_issued costs choice cycle) c.loop-choice.invariant.has inside stored));
       early = early-more latest next choice.item cycle k c.loop-choice.invariant.early inside soon stored;

@@ -10,7 +10,7 @@ loop-instr-init g c = record { done = refl; fits = c.requires.fitting }
 
 pub loop-instr-preserved : goal.loop-instr-preserved
 loop-instr-preserved g c =
-    let isa = g.A.Arch.isa in
+    let isa = g.A.Arch.language.isa in
     record {
       done = c.in_ok-step.ensures.ok ∙ ap (exec isa _) c.loop-instr.invariant.done
           ∙ sym (run_next isa c.args.items.now c.loop-instr.instr-index no_instr c.args.state.now c.loop-instr-test.true);

@@ -7,6 +7,6 @@ use Rattle.machine_sem.proofs.run.run_list.Given as goal
 abbrev pub invariant-loop-instr : goal.invariant-loop-instr
 invariant-loop-instr g l =
     record {
-      done : l.state ≡ run g.A.Arch.isa (take l.instr-index l.items) l.fn.state;
-      fits : Fits g.A.Arch.isa l.state;
+      done : l.state ≡ run g.A.Arch.language.isa (take l.instr-index l.items) l.fn.state;
+      fits : Fits g.A.Arch.language.isa l.state;
     }

@@ -2,7 +2,7 @@
 use Rattle.std.proofs.Common.{[], sym, ◌∙◌, subst, arith}
 use Rattle.sl_model.specs.Legal.{body_of}
 use Rattle.renamer.specs.Outcome.{CarriesProblem}
-use Rattle.renamer.specs.WellPosed.{AreValid}
+use Rattle.sl_model.specs.Lawful.{AreValid}
 use Rattle.renamer.proofs.AppliedLemmas.{applied-all, pushed-more}
 use Rattle.renamer.proofs.LegalityCarries.{legal-carries}
 use Rattle.renamer.proofs.LegalityValid.{applied-valid}
@@ -21,7 +21,7 @@ returns-clause-applied c = applied-all _ c.args.schedule.now c.loop-place.place 
 pub returns-clause-carries : goal.returns-clause-carries
 returns-clause-carries c isa s lawful posed legal tags =
     subst (λ items. CarriesProblem isa c.args.problem.now c.args.schedule.now items s) (sym (applied-all _ c.args.schedule.now c.loop-place.place _ c.loop-place-test.false c.loop-place.invariant.2))
-    (legal-carries isa c.args.problem.now c.args.schedule.now s lawful posed legal tags)
+    (legal-carries c.faithful_order_carries.ensures isa c.args.problem.now c.args.schedule.now s lawful posed legal tags)
 
 pub returns-clause-valid : goal.returns-clause-valid
 returns-clause-valid c isa sound legal =

@@ -2,7 +2,8 @@ use Rattle.std.proofs.Common.{◌≡◌, ◌≤◌, ◌+◌, length, take, map, 
 use Rattle.std.proofs.lemmas.List.{take_all}
 use Rattle.std.specs.Io.KnownBytes.{append_known}
 use Rattle.sl_model.specs.Text.{joined}
-use Rattle.slothy_cli.proofs.Telling.{joined-more, append_known-twice, front_of_all, risen_before, nothing_told}
+use Rattle.slothy_cli.proofs.Telling.{joined-more, front_of_all, risen_before, nothing_told}
+use Rattle.sl_base.proofs.ForCallers.{append_known-twice}
 use Rattle.slothy_cli.proofs.report.tell.Goals as goal
 
 pub returns-in-Err-clause-took : goal.returns-in-Err-clause-took

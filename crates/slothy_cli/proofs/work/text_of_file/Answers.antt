@@ -1,5 +1,5 @@
 use Rattle.std.proofs.Common.{subst, ℕ, List, Option}
-use Rattle.sl_isa.specs.Arch.{Language}
+use Rattle.sl_isa.specs.Language.{Language}
 use Rattle.slothy_cli.specs.Command.{Command}
 use Rattle.slothy_cli.specs.Ending.{FilesRun, known_of, HasCause}
 use Rattle.slothy_cli.specs.Shown.{shown}
@@ -9,7 +9,7 @@ use Rattle.slothy_cli.proofs.work.text_of_file.Goals as goal
 
 pub returns-in-Ok-clause-cause : goal.returns-in-Ok-clause-cause
 returns-in-Ok-clause-cause g c =
-    let language : Language = record { isa = g.A.Arch.isa; reads = g.A.Arch.reads; printed = g.A.Arch.printed; step_of = g.A.Arch.step_of } in
+    let language : Language = g.A.Arch.language in
     let command : Command = shown c.args.command.now in
     let later : FilesRun = record {
       faults_before = g.F.Files.faults c.read_all.new.files;
@@ -25,7 +25,7 @@ returns-in-Ok-clause-cause g c =
 
 pub returns-in-Err-clause-cause : goal.returns-in-Err-clause-cause
 returns-in-Err-clause-cause g c =
-    let language : Language = record { isa = g.A.Arch.isa; reads = g.A.Arch.reads; printed = g.A.Arch.printed; step_of = g.A.Arch.step_of } in
+    let language : Language = g.A.Arch.language in
     let e = c.in-Err.ensures in
     rw c.unread.ensures
     (unread_cause language (shown c.args.command.now) (known_of (shown c.args.command.now) (g.F.Files.holds c.args.files.now)) _ c.in-Err.error e.fault_risen e.fault_chosen e.fault_broken e.long_given e.long_chosen e.long_told)

@@ -1,5 +1,5 @@
 use Rattle.std.proofs.Common.{◌<◌, ◌-◌, ◌∷◌, [], ap, ◌∙◌, sym, arith, rules}
-use Rattle.sl_model.specs.StateText.{hex_digits}
+use Rattle.state_text.specs.StateText.{hex_digits}
 use Rattle.state_text.proofs.Printing.{digits_none, digits_more, in_two}
 use Rattle.state_text.proofs.printer.+push_hex.Goals as goal
 

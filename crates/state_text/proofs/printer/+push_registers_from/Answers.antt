@@ -1,5 +1,6 @@
 use Rattle.std.proofs.Common.{◌<◌, ◌+◌, ◌-◌, ◌++◌, ap, ◌∙◌, sym, arith, rules}
-use Rattle.sl_model.specs.StateText.{registers_from, register_text, registers_text}
+use Rattle.sl_model.specs.RegisterNames.{registers_from}
+use Rattle.state_text.specs.StateText.{register_text, registers_text}
 use Rattle.state_text.proofs.Printing.{registers_none, registers_more, in_two}
 use Rattle.state_text.proofs.printer.+push_registers_from.Goals as goal
 

@@ -1,6 +1,6 @@
 use Rattle.std.proofs.Common.{◌+◌, ◌++◌, sym, ap, ◌∙◌}
 use Rattle.std.specs.FinMap.{entries}
-use Rattle.sl_model.specs.StateText.{bytes_behind, bytes_text}
+use Rattle.state_text.specs.StateText.{bytes_behind, bytes_text}
 use Rattle.state_text.proofs.Printing.{bytes_none, bytes_begin, bytes_more, bytes_end}
 use Rattle.state_text.proofs.printer.push_bytes.Goals as goal
 

@@ -1,6 +1,6 @@
 use Rattle.std.proofs.Common.{◌≡◌, ◌++◌}
 use Rattle.std.specs.FinMap.{entries}
-use Rattle.sl_model.specs.StateText.{bytes_text, bytes_behind}
+use Rattle.state_text.specs.StateText.{bytes_text, bytes_behind}
 use Rattle.state_text.proofs.printer.push_bytes.Given as goal
 
 abbrev pub invariant-loop-address : goal.invariant-loop-address

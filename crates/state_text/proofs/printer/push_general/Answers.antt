@@ -1,5 +1,6 @@
 use Rattle.std.proofs.Common.{ap, ◌∙◌}
-use Rattle.sl_model.specs.StateText.{registers_from, registers_text, general_registers}
+use Rattle.sl_model.specs.RegisterNames.{registers_from, general_registers}
+use Rattle.state_text.specs.StateText.{registers_text}
 use Rattle.sl_model.specs.declared.register.Bank.TheVariants.{General}
 use Rattle.state_text.proofs.Printing.{registers_in_two, in_two}
 use Rattle.state_text.proofs.printer.push_general.Goals as goal

@@ -1,5 +1,6 @@
 use Rattle.sl_model.specs.declared.register.Bank.TheVariants.{Vector, Flags, Stack}
-use Rattle.sl_model.specs.StateText.{registers_from, other_registers, registers_text}
+use Rattle.sl_model.specs.RegisterNames.{registers_from, other_registers}
+use Rattle.state_text.specs.StateText.{registers_text}
 use Rattle.state_text.proofs.Printing.{others_are, in_three}
 use Rattle.state_text.proofs.printer.push_others.Goals as goal
 

@@ -1,5 +1,6 @@
 use Rattle.std.specs.FinMap.{entries}
-use Rattle.sl_model.specs.StateText.{general_registers, other_registers, registers_text, bytes_text, state_text}
+use Rattle.sl_model.specs.RegisterNames.{general_registers, other_registers}
+use Rattle.state_text.specs.StateText.{registers_text, bytes_text, state_text}
 use Rattle.state_text.proofs.Printing.{state_is, in_three}
 use Rattle.state_text.proofs.printer.push_state.Goals as goal
 

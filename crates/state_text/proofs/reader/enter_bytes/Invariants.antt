@@ -1,5 +1,5 @@
 use Rattle.std.proofs.Common.{◌≡◌, ◌≤◌, ◌^◌, length}
-use Rattle.sl_model.specs.StateText.{with_bytes}
+use Rattle.state_text.specs.StateText.{with_bytes}
 use Rattle.state_text.proofs.reader.enter_bytes.Given as goal
 
 abbrev pub invariant-loop-rest : goal.invariant-loop-rest

@@ -1,6 +1,6 @@
 use Rattle.std.proofs.Common.{◌≡◌, ap, Err, Ok, sym, subst, ◌∙◌}
 use Rattle.std.proofs.lemmas.Result.{err_from_is_err_and}
-use Rattle.sl_model.specs.StateText.{read_state, with_lines}
+use Rattle.state_text.specs.StateText.{read_state, with_lines}
 use Rattle.sl_model.specs.Text.{numbered_lines}
 use Rattle.sl_text.specs.Lines.{lines_left}
 use Rattle.state_text.proofs.Reading.{lines_go_on, lines_end, line_stops}

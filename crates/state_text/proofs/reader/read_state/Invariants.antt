@@ -1,5 +1,5 @@
 use Rattle.std.proofs.Common.{◌≡◌}
-use Rattle.sl_model.specs.StateText.{with_lines, read_state}
+use Rattle.state_text.specs.StateText.{with_lines, read_state}
 use Rattle.sl_text.specs.Lines.{lines_left}
 use Rattle.state_text.proofs.reader.read_state.Given as goal
 

@@ -1,0 +1,161 @@
+-- The tokens of a printed line.
+use Rattle.std.proofs.Common.{◌≡◌, ℕ, zero, suc, ◌+◌, ◌-◌, Bool, true, false, cond, not, ◌&&◌, ◌||◌, nat_eq, eqb, slice_index, List, [], ◌∷◌, ◌++◌, length, take, drop, codes, refl, ap, sym, ◌∙◌, subst, arith, append-nil, take_all}
+use Rattle.std.specs.List.{list_all, list_any, starts_with, AllByRecursion}
+use Rattle.sl_model.specs.declared.text.Comments.{Comments}
+use Rattle.sl_model.specs.declared.text.Comments.TheVariants.{Slash, SlashAt}
+use Rattle.sl_model.specs.declared.text.TokenKind.{TokenKind}
+use Rattle.sl_model.specs.declared.text.TokenKind.TheVariants.{Word, Number, Mark, Comment}
+use Rattle.sl_model.specs.Text.{is_blank, holds}
+use Rattle.sl_model.specs.Token.{Lexeme, tokens, first_token, lexeme, tokens_from, tokens_at, leaves_open, open_behind}
+use Rattle.sl_laws.proofs.Texts.{starts_take, first_token-block}
+use Rattle.sl_model.specs.declared.instruction.Instr.{Instr}
+use Rattle.sl_isa.specs.Language.{IsSpelledAt, is_of_instruction, is_instruction_token, Reads}
+use Rattle.sl_model.specs.TokenTests.{is_comment, is_mark, marks}
+use Rattle.asm_reader.specs.Statements.{statements, words_of}
+use Rattle.asm_reader.proofs.ForCallers.{statements_whole}
+use Rattle.std.proofs.lemmas.Bool.{and_parts}
+
+-- ---- a comment to the line's end
+
+comment_first : (comments : Comments) (rest : List ℕ) → first_token comments (47 ∷ 47 ∷ rest) ≡ (Comment, length (47 ∷ 47 ∷ rest))
+unfolding first_token
+comment_first Slash rest = refl
+comment_first SlashAt rest = refl
+
+taken_whole : (comments : Comments) (place : ℕ) (text : List ℕ) → tokens_from comments place (length text) text ≡ []
+unfolding tokens_from
+taken_whole comments place [] = refl
+taken_whole comments place (c ∷ text) = taken_whole comments (place + 1) text
+
+-- the token of such a comment
+abbrev pub line_comment : ℕ → List ℕ → Lexeme
+line_comment place rest = record { kind = Comment; text = 47 ∷ 47 ∷ rest; start = place }
+
+pub comment_tokens : (comments : Comments) (place : ℕ) (rest : List ℕ) → tokens_from comments place 0 (47 ∷ 47 ∷ rest) ≡ line_comment place rest ∷ []
+unfolding tokens_from
+comment_tokens comments place rest =
+    let text = 47 ∷ 47 ∷ rest in
+    let left : length text - 1 ≡ length (47 ∷ rest) = omega arith in
+    ap (λ found. lexeme found place text ∷ tokens_from comments (place + 1) (found.1 - 1) (47 ∷ rest)) (comment_first comments rest)
+    ∙ ap (λ whole. record { kind = Comment; text = whole; start = place } ∷ tokens_from comments (place + 1) (length text - 1) (47 ∷ rest)) (take_all (length text) text (omega arith))
+    ∙ ap (λ n. line_comment place rest ∷ tokens_from comments (place + 1) n (47 ∷ rest)) left
+    ∙ ap (λ more. line_comment place rest ∷ more) (taken_whole comments (place + 1) (47 ∷ rest))
+
+-- ---- no token but a comment leaves one open
+
+abbrev pub IsClosed : Lexeme → Type 0
+IsClosed token = is_comment token.kind ≡ false → leaves_open false token.text ≡ false
+
+closed_by : (text : List ℕ) (n : ℕ) (b : Bool) → starts_with nat_eq (take n text) (codes "/*") ≡ b → starts_with nat_eq text (codes "/*") ≡ false → leaves_open false (take n text) ≡ false
+closed_by text n true is e = cc (starts_take (codes "/*") text n is, e)
+closed_by text n false is e = ap (λ b. b && not (holds (codes "*/") (drop 2 (take n text)))) is
+
+closed_first : (comments : Comments) (text : List ℕ) (b : Bool) → starts_with nat_eq text (codes "/*") ≡ b
+    → is_comment (first_token comments text).0 ≡ false → leaves_open false (take (first_token comments text).1 text) ≡ false
+closed_first comments text true is e = cc (ap (λ found. is_comment found.0) (first_token-block comments text is), e)
+closed_first comments text false is e = closed_by text (first_token comments text).1 (starts_with nat_eq (take (first_token comments text).1 text) (codes "/*")) refl is
+
+closed_step : (blank : Bool) (token : Lexeme) (behind rest : List Lexeme) → IsClosed token → AllByRecursion IsClosed behind → AllByRecursion IsClosed rest
+    → AllByRecursion IsClosed (cond blank behind (token ∷ rest))
+closed_step true token behind rest here more all = more
+closed_step false token behind rest here more all = (here, all)
+
+closed_from : (comments : Comments) (place taken : ℕ) (text : List ℕ) → AllByRecursion IsClosed (tokens_from comments place taken text)
+unfolding tokens_from
+closed_from comments place taken [] = tt
+closed_from comments place (suc taken) (c ∷ text) = closed_from comments (place + 1) taken text
+closed_from comments place zero (c ∷ text) =
+    closed_step (is_blank c) (lexeme (first_token comments (c ∷ text)) place (c ∷ text)) (tokens_from comments (place + 1) 0 text)
+    (tokens_from comments (place + 1) ((first_token comments (c ∷ text)).1 - 1) text)
+    (closed_first comments (c ∷ text) (starts_with nat_eq (c ∷ text) (codes "/*")) refl)
+    (closed_from comments (place + 1) 0 text) (closed_from comments (place + 1) ((first_token comments (c ∷ text)).1 - 1) text)
+
+-- ---- the words of an instruction, and a comment behind them
+
+word_kind : (kind : TokenKind) (text : List ℕ) → is_of_instruction kind text ≡ true → is_comment kind ≡ false
+word_kind Word text e = refl
+word_kind Number text e = refl
+word_kind Mark text e = refl
+word_kind Comment text e = cc
+
+-- behind these no comment is open
+words_closed : (words rest : List Lexeme) → list_all is_instruction_token words ≡ true → AllByRecursion IsClosed (words ++ rest) → open_behind false (words ++ rest) ≡ open_behind false rest
+unfolding open_behind
+words_closed [] rest plain closed = refl
+words_closed (token ∷ words) rest plain closed =
+    let both = and_parts (is_instruction_token token) (list_all is_instruction_token words) plain in
+    ap (λ b. open_behind b (words ++ rest)) (closed.0 (word_kind token.kind token.text both.0)) ∙ words_closed words rest both.1 closed.1
+
+-- they are the words
+words_first : (words rest : List Lexeme) → list_all is_instruction_token words ≡ true → words_of (words ++ rest) ≡ words ++ words_of rest
+unfolding words_of
+words_first [] rest plain = refl
+words_first (token ∷ words) rest plain =
+    let both = and_parts (is_instruction_token token) (list_all is_instruction_token words) plain in
+    ap (λ b. cond b (words_of (words ++ rest)) (token ∷ words_of (words ++ rest))) (word_kind token.kind token.text both.0)
+    ∙ ap (λ more. token ∷ more) (words_first words rest both.1)
+
+mark_at : (b rest : Bool) → cond b false rest ≡ true → b ≡ false
+mark_at true rest e = sym e
+mark_at false rest e = refl
+
+no_semicolon : (kind : TokenKind) (text : List ℕ) → is_of_instruction kind text ≡ true → cond (is_mark kind) (eqb (slice_index text 0) 59) false ≡ false
+no_semicolon Word text e = refl
+no_semicolon Number text e = refl
+no_semicolon Mark text e = mark_at (eqb (slice_index text 0) 59) (cond (eqb (slice_index text 0) 58) false (cond (eqb (slice_index text 0) 60) false true)) e
+no_semicolon Comment text e = refl
+
+no_semicolons : (words rest : List Lexeme) → list_all is_instruction_token words ≡ true → list_any (marks 59) (words ++ rest) ≡ list_any (marks 59) rest
+no_semicolons [] rest plain = refl
+no_semicolons (token ∷ words) rest plain =
+    let both = and_parts (is_instruction_token token) (list_all is_instruction_token words) plain in
+    ap (λ b. b || list_any (marks 59) (words ++ rest)) (no_semicolon token.kind token.text both.0) ∙ no_semicolons words rest both.1
+
+-- ---- the line of an instruction, whose text gives these words
+
+-- The tokens of a line are words and a comment.
+pub record IsLine (comments : Comments) (line : List ℕ) (words : List Lexeme) : Type 0 where
+  pub place : ℕ
+  pub rest : List ℕ
+  pub tokens_are : tokens comments false line ≡ words ++ line_comment place rest ∷ []
+  pub plain : list_all is_instruction_token words ≡ true
+
+-- the words and the comment are the only statement, and the words are its words
+pub line_statements : (comments : Comments) (line : List ℕ) (words : List Lexeme) (is : IsLine comments line words)
+    → statements (tokens comments false line) ≡ (words ++ line_comment is.place is.rest ∷ []) ∷ []
+line_statements comments line words is =
+    ap statements is.tokens_are
+    ∙ statements_whole (words ++ line_comment is.place is.rest ∷ []) (no_semicolons words (line_comment is.place is.rest ∷ []) is.plain)
+
+pub line_words : (comments : Comments) (line : List ℕ) (words : List Lexeme) (is : IsLine comments line words)
+    → words_of (words ++ line_comment is.place is.rest ∷ []) ≡ words
+unfolding words_of
+line_words comments line words is = words_first words (line_comment is.place is.rest ∷ []) is.plain ∙ append-nil words
+
+-- behind the line no comment is open
+pub line_closed : (comments : Comments) (line : List ℕ) (words : List Lexeme) → IsLine comments line words → open_behind false (tokens comments false line) ≡ false
+unfolding open_behind tokens_at
+line_closed comments line words is =
+    ap (open_behind false) is.tokens_are
+    ∙ words_closed words (line_comment is.place is.rest ∷ []) is.plain (subst (AllByRecursion IsClosed) is.tokens_are (closed_from comments 0 0 line))
+
+-- the line of an instruction
+pub item_tokens : (reads : Reads) (comments : Comments) (text note : List ℕ) (i : Instr) (spelled : IsSpelledAt reads comments text 8 (codes " // @slothy:" ++ note) i)
+    → IsLine comments (codes "        " ++ (text ++ (codes " // @slothy:" ++ note))) spelled.words
+unfolding tokens_at tokens_from
+item_tokens reads comments text note i spelled = record {
+  place = 8 + length text + 1;
+  rest = codes " @slothy:" ++ note;
+  tokens_are = spelled.tokens ∙ ap (λ more. spelled.words ++ more) (comment_tokens comments (8 + length text + 1) (codes " @slothy:" ++ note));
+  plain = spelled.plain;
+}
+
+-- the first line of a region
+pub head_tokens : (comments : Comments) (note : List ℕ) → IsLine comments (codes "        // @slothy:region" ++ note) []
+unfolding tokens_at tokens_from
+head_tokens comments note = record {
+  place = 8;
+  rest = codes " @slothy:region" ++ note;
+  tokens_are = comment_tokens comments 8 (codes " @slothy:region" ++ note);
+  plain = refl;
+}

@@ -1,0 +1,15 @@
+//! Tests of reading and printing regions, and of the command.
+#![tactic(auto)]
+
+#[cfg(test)]
+mod calls;
+#[cfg(test)]
+mod cost;
+#[cfg(test)]
+mod opt;
+#[cfg(test)]
+mod printing;
+#[cfg(test)]
+mod reading;
+#[cfg(test)]
+mod run;

@@ -1,0 +1,372 @@
+//! Schedules of `opt`.
+use crate::calls::{NONE, Usual, answer_to, compare};
+use sample_set::Failing;
+use std::alloc::{AllocError, Global};
+use std::thread::Threads;
+
+/// A schedule of a region of three instructions at latency 2.
+const OPT: Usual = Usual {
+    words: "opt k.s --core one:2",
+    input: "slothy_start:\n        add x2, x1, x0\n        eor x3, x2, x2\n        sub x4, x1, x0\nslothy_end:\n",
+    state: "",
+};
+
+/// Regions with their best schedules, or why they have none.
+const SCHEDULES: &str = "\
+a chain|=|=||0|slothy_start:
+        // @slothy:region v=1 kind=straight n=3 cycles=3 stalls=0
+        add x2, x1, x0 // @slothy:i=0 u=u c=0 line=2
+        sub x4, x1, x0 // @slothy:i=2 u=u c=1 line=4
+        eor x3, x2, x2 // @slothy:i=1 u=u c=2 line=3
+slothy_end:
+|~
+an output that is read before it is written|=|        nop
+slothy_start:
+        add x2, x1, x0
+        eor x3, x2, x1
+        sub x1, x0, x4
+slothy_end: // x
+        ret||0|        nop
+slothy_start:
+        // @slothy:region v=1 kind=straight n=3 cycles=4 stalls=1
+        add x2, x1, x0 // @slothy:i=0 u=u c=0 line=3
+        eor x3, x2, x1 // @slothy:i=1 u=u c=2 line=4
+        sub x1, x0, x4 // @slothy:i=2 u=u c=3 line=5
+slothy_end: // x
+        ret|~
+65 stalls|opt k.s --core one:66|slothy_start:
+        add x2, x1, x0
+        add x3, x2, x2
+slothy_end:
+||1||slothy: infeasible up to 64 stalls
+~
+64 stalls|opt k.s --core one:65|slothy_start:
+        add x2, x1, x0
+        add x3, x2, x2
+slothy_end:
+||0|slothy_start:
+        // @slothy:region v=1 kind=straight n=2 cycles=66 stalls=64
+        add x2, x1, x0 // @slothy:i=0 u=u c=0 line=2
+        add x3, x2, x2 // @slothy:i=1 u=u c=65 line=3
+slothy_end:
+|~
+carriage returns|=|slothy_start:\r
+        add x2, x1, x0
+slothy_end:
+||0|slothy_start:\r
+        // @slothy:region v=1 kind=straight n=1 cycles=1 stalls=0\r
+        add x2, x1, x0 // @slothy:i=0 u=u c=0 line=2\r
+slothy_end:
+|~
+flags and lanes|opt k.s --core one:3|slothy_start:
+\tadds x1, x2, x3
+\tcsel x4, x1, x2, ne // reads the flags
+\tADD V0.4S,V1.4S,V2.4S
+\teor v3.16b, v1.16b, v2.16b
+slothy_end:
+||0|slothy_start:
+        // @slothy:region v=1 kind=straight n=4 cycles=4 stalls=0
+        adds x1, x2, x3 // @slothy:i=0 u=u c=0 line=2
+        add v0.4s, v1.4s, v2.4s // @slothy:i=2 u=u c=1 line=4
+        eor v3.16b, v1.16b, v2.16b // @slothy:i=3 u=u c=2 line=5
+        csel x4, x1, x2, ne // @slothy:i=1 u=u c=3 line=3
+slothy_end:
+|~
+flags written twice|=|slothy_start:
+        adds x1, x2, x3
+        subs x4, x5, x6
+slothy_end:
+||3||slothy: k.s:3: refused: NotYet
+~
+no items|=|slothy_start:
+slothy_end:
+||0|slothy_start:
+        // @slothy:region v=1 kind=straight n=0 cycles=0 stalls=0
+slothy_end:
+|~
+a register written twice above a bad line|=|slothy_start:
+        add x2, x1, x0
+        add x2, x3, x3
+        nop
+slothy_end:
+||3||slothy: k.s:3: refused: NotYet
+~
+";
+
+#[test]
+fn opt_writes_the_best_schedule(rt: HostRuntime) -> Result<(), AllocError> {
+    let mut failing = Failing::new(rt.alloc());
+    compare(&rt, rt.alloc(), &mut failing, OPT, SCHEDULES)?;
+    let found = failing.text();
+    assert!(rt; found.is_empty(), "{found}");
+    Ok(())
+}
+
+/// A region of so many items, each of which reads the one above it.
+fn chain_of(alloc: Global, count: u32, back: &str) -> Result<String, AllocError> {
+    let mut text = String::from_str(alloc, "slothy_start:\n")?;
+    for item in 0..count {
+        let out = item.saturating_add(1);
+        write!(text, "        add x{out}, x{item}, x{item}\n")?;
+    }
+    text.push_str(back)?;
+    text.push_str("slothy_end:\n")?;
+    Ok(text)
+}
+
+/// The same, as it is written at latency 2.
+fn written_chain(alloc: Global, count: u32) -> Result<String, AllocError> {
+    let stalls = count.saturating_sub(1);
+    let cycles = count.saturating_add(stalls);
+    let mut text = String::from_str(alloc, "0|slothy_start:\n")?;
+    write!(
+        text,
+        "        // @slothy:region v=1 kind=straight n={count} cycles={cycles} stalls={stalls}\n"
+    )?;
+    for item in 0..count {
+        let (out, cycle, line) = (
+            item.saturating_add(1),
+            item.saturating_mul(2),
+            item.saturating_add(2),
+        );
+        write!(
+            text,
+            "        add x{out}, x{item}, x{item} // @slothy:i={item} u=u c={cycle} line={line}\n"
+        )?;
+    }
+    text.push_str("slothy_end:\n|")?;
+    Ok(text)
+}
+
+/// What `opt` answers to a chain.
+fn answer_of<R: Threads + Sync>(
+    rt: &R,
+    alloc: Global,
+    count: u32,
+    back: &str,
+) -> Result<String, AllocError> {
+    let text = chain_of(alloc, count, back)?;
+    answer_to(rt, alloc, OPT.words, text.as_bytes(), b"", NONE)
+}
+
+// With memory at hand each region of at most 8 items is written.
+#[test]
+fn eight_items_are_the_limit_of_opt(rt: HostRuntime) -> Result<(), AllocError> {
+    let mut failing = Failing::new(rt.alloc());
+    for count in 0..9u32 {
+        let name = format!(in rt.alloc(); "{count} items")?;
+        let wanted = written_chain(rt.alloc(), count)?;
+        let found = answer_of(&rt, rt.alloc(), count, "")?;
+        failing.compare(name.as_str(), found.as_str(), wanted.as_str())?;
+    }
+    let found = answer_of(&rt, rt.alloc(), 8, "        add x1, x0, x0\n")?;
+    failing.compare(
+        "nine items",
+        found.as_str(),
+        "9||slothy: k.s:10: too large: items limit=8\n",
+    )?;
+    let found = answer_of(&rt, rt.alloc(), 8, "        nop\n")?;
+    failing.compare(
+        "a bad line",
+        found.as_str(),
+        "3||slothy: k.s:10: refused: UnknownMnemonic\n",
+    )?;
+    let found = failing.text();
+    assert!(rt; found.is_empty(), "{found}");
+    Ok(())
+}
+
+// What stands about the region is written, however long it is.
+#[test]
+fn long_files_are_written(rt: HostRuntime) -> Result<(), AllocError> {
+    for length in [4096, 32768, 65536, 1000000] {
+        let mut text = String::from_str(rt.alloc(), "// ")?;
+        for _ in 0..length {
+            text.push_str("y")?;
+        }
+        text.push_str("\n")?;
+        text.push_str(OPT.input)?;
+        let found = answer_to(&rt, rt.alloc(), OPT.words, text.as_bytes(), b"", NONE)?;
+        assert!(rt;
+            found.starts_with("0|// yyy") && found.len() > length,
+            "{length} bytes"
+        );
+        assert!(rt; found.ends_with("line=4\nslothy_end:\n|"), "{length} bytes");
+    }
+    Ok(())
+}
+
+/// What an instruction does to registers.
+#[derive(Clone, Copy)]
+struct Adds {
+    out: u16,
+    left: u16,
+    right: u16,
+}
+
+/// An `add` of these registers.
+const fn add_of(out: u16, left: u16, right: u16) -> Adds {
+    Adds { out, left, right }
+}
+
+impl Adds {
+    /// Does it read a register?
+    fn reads(self, register: u16) -> bool {
+        self.left == register || self.right == register
+    }
+
+    /// Must it stay below another, which stands above it?
+    fn depends_on(self, above: Adds) -> bool {
+        self.reads(above.out) || above.reads(self.out) || above.out == self.out
+    }
+}
+
+/// How many orders there are of the items behind each place of eight.
+const ORDERS: [u32; 8] = [5040, 720, 120, 24, 6, 2, 1, 1];
+
+/// The order of eight items with a number, where orders go by their first difference.
+fn order_of(number: u32) -> [usize; 8] {
+    let mut rest = number;
+    let mut order: [usize; 8] = [0; 8];
+    let mut used = [false; 8];
+    for place in 0..8 {
+        let behind = ORDERS[place].max(1);
+        let mut skipped = rest / behind;
+        rest %= behind;
+        for item in 0..8 {
+            if used[item] {
+                continue;
+            }
+            if skipped == 0 {
+                used[item] = true;
+                order[place] = item;
+                break;
+            }
+            skipped -= 1;
+        }
+    }
+    order
+}
+
+/// The cycles of eight items in an order, one after the other; none where an item stands above one that it depends on.
+fn cycles_in(items: &[Adds; 8], order: &[usize; 8], latency: u32) -> Option<[u32; 8]> {
+    let mut cycles: [u32; 8] = [0; 8];
+    let mut next: u32 = 0;
+    for place in 0..8 {
+        let mine = order[place];
+        let item = items.get(mine)?;
+        let mut cycle: u32 = next;
+        for above in 0..place {
+            let other = items.get(order[above])?;
+            if order[above] > mine && other.depends_on(*item) {
+                return None;
+            }
+            if order[above] < mine && item.reads(other.out) {
+                cycle = cycle.max(cycles[above].saturating_add(latency));
+            }
+        }
+        cycles[place] = cycle;
+        next = cycle.saturating_add(1);
+    }
+    Some(cycles)
+}
+
+/// The region of items, as it stands.
+fn region_of(alloc: Global, items: &[Adds; 8]) -> Result<String, AllocError> {
+    let mut text = String::from_str(alloc, "slothy_start:\n")?;
+    for item in items {
+        let (out, left, right) = (item.out, item.left, item.right);
+        write!(text, "        add x{out}, x{left}, x{right}\n")?;
+    }
+    text.push_str("slothy_end:\n")?;
+    Ok(text)
+}
+
+/// The region of items in an order, as it is written.
+fn written_in(
+    alloc: Global,
+    items: &[Adds; 8],
+    order: &[usize; 8],
+    cycles: &[u32; 8],
+) -> Result<String, AllocError> {
+    let count = cycles[7].saturating_add(1);
+    let stalls = count.saturating_sub(8);
+    let mut text = String::from_str(alloc, "slothy_start:\n")?;
+    write!(
+        text,
+        "        // @slothy:region v=1 kind=straight n=8 cycles={count} stalls={stalls}\n"
+    )?;
+    for (number, cycle) in order.iter().zip(cycles) {
+        let Some(item) = items.get(*number) else {
+            return Err(AllocError);
+        };
+        let (out, left, right) = (item.out, item.left, item.right);
+        let line = number.saturating_add(2);
+        write!(
+            text,
+            "        add x{out}, x{left}, x{right} // @slothy:i={number} u=u c={cycle} line={line}\n"
+        )?;
+    }
+    text.push_str("slothy_end:\n")?;
+    Ok(text)
+}
+
+/// The region of items in the first of their best orders, of all 40320, as it is written.
+fn best_written(alloc: Global, items: &[Adds; 8], latency: u32) -> Result<String, AllocError> {
+    let mut best = String::new(alloc);
+    let mut fewest = u32::MAX;
+    for number in 0..40320 {
+        let order = order_of(number);
+        let Some(cycles) = cycles_in(items, &order, latency) else {
+            continue;
+        };
+        if cycles[7] < fewest {
+            fewest = cycles[7];
+            best = written_in(alloc, items, &order, &cycles)?;
+        }
+    }
+    Ok(best)
+}
+
+#[test]
+fn a_list_of_all_orders_has_the_same_best(rt: HostRuntime) -> Result<(), AllocError> {
+    let alloc = rt.alloc();
+    let regions = [
+        (
+            "opt k.s --core one:3",
+            3,
+            [
+                add_of(1, 0, 0),
+                add_of(2, 1, 1),
+                add_of(3, 2, 0),
+                add_of(4, 0, 0),
+                add_of(5, 4, 4),
+                add_of(6, 5, 0),
+                add_of(7, 3, 6),
+                add_of(8, 0, 7),
+            ],
+        ),
+        (
+            "opt k.s --core one:5",
+            5,
+            [
+                add_of(1, 9, 10),
+                add_of(2, 1, 10),
+                add_of(9, 2, 11),
+                add_of(3, 12, 10),
+                add_of(4, 3, 1),
+                add_of(12, 13, 13),
+                add_of(5, 13, 14),
+                add_of(13, 5, 4),
+            ],
+        ),
+    ];
+    for (words, latency, items) in regions {
+        let text = region_of(alloc, &items)?;
+        let wanted = best_written(alloc, &items, latency)?;
+        let wanted = format!(in alloc; "0|{wanted}|")?;
+        let found = answer_to(&rt, alloc, words, text.as_bytes(), b"", NONE)?;
+        assert_eq!(rt; found.as_str(), wanted.as_str(), "at {words}");
+    }
+    Ok(())
+}

@@ -1,0 +1,128 @@
+//! Written files, of regions that are read and printed in their own order.
+use arm64_table::Arm64;
+use asm_printer::written_text;
+use asm_reader::{Wants, read_region};
+use legal_space::Choice;
+use sl_text::text_of;
+use std::alloc::{AllocError, Global};
+
+const WANTS: Wants = Wants {
+    limit: 5000,
+    once: false,
+    no_notes: true,
+};
+
+/// The own order of so many items, and the cycles 0, 2, 4 ..
+fn own_order(alloc: Global, count: u16) -> Result<(Vec<Choice>, Vec<u32>), AllocError> {
+    let mut schedule = Vec::new(alloc);
+    let mut cycles = Vec::new(alloc);
+    for item in 0..count {
+        schedule.push(Choice {
+            item,
+            unit: 0,
+            outs: [None; 3],
+        })?;
+        cycles.push(u32::from(item).saturating_mul(2))?;
+    }
+    Ok((schedule, cycles))
+}
+
+/// A text of so many bytes before a region of so many items, with this end of its lines.
+fn text_with(alloc: Global, before: usize, count: u32, end: &str) -> Result<String, AllocError> {
+    let mut text = String::new(alloc);
+    for _ in 0..before {
+        text.push_str("-")?;
+    }
+    write!(text, "{end}s:{end}")?;
+    for item in 0..count {
+        write!(text, "ADD X0,X1,#{item} // a{end}")?;
+    }
+    write!(text, "e: // b{end}")?;
+    Ok(text)
+}
+
+/// The same, as it is written.
+fn wanted_for(alloc: Global, before: usize, count: u32, end: &str) -> Result<String, AllocError> {
+    let mut text = String::new(alloc);
+    for _ in 0..before {
+        text.push_str("-")?;
+    }
+    write!(
+        text,
+        "{end}s:{end}        // @slothy:region v=1 kind=straight n={count} cycles=7 stalls=5{end}"
+    )?;
+    for item in 0..count {
+        let (cycle, line) = (item.saturating_mul(2), item.saturating_add(3));
+        write!(
+            text,
+            "        add x0, x1, #{item} // @slothy:i={item} u=u c={cycle} line={line}{end}"
+        )?;
+    }
+    write!(text, "e: // b{end}")?;
+    Ok(text)
+}
+
+/// A region's written file.
+fn written(alloc: Global, text: &str, count: u16) -> Result<String, AllocError> {
+    if 1 << 31 <= text.len() {
+        return Err(AllocError);
+    }
+    let Ok(region) = read_region(&Arm64, alloc, text, "s", "e", WANTS) else {
+        return Err(AllocError);
+    };
+    let (schedule, cycles) = own_order(alloc, count)?;
+    let written = written_text(
+        &Arm64,
+        alloc,
+        &region.cut,
+        &region.items,
+        &schedule,
+        &cycles,
+        7,
+        5,
+    );
+    let Ok(bytes) = written else {
+        return Err(AllocError);
+    };
+    if 1 << 31 <= bytes.len() {
+        return Err(AllocError);
+    }
+    match text_of(&bytes) {
+        Ok(text) => String::from_str(alloc, text),
+        Err(_) => String::from_str(alloc, "no text"),
+    }
+}
+
+/// Bytes before a region, its items, and the end of its lines.
+const FILES: [(usize, u16, &str); 16] = [
+    (0, 0, "\n"),
+    (0, 1, "\r\n"),
+    (0, 2, "\n"),
+    (0, 31, "\n"),
+    (0, 32, "\n"),
+    (0, 33, "\n"),
+    (0, 48, "\r\n"),
+    (0, 49, "\n"),
+    (0, 64, "\n"),
+    (0, 65, "\n"),
+    (0, 257, "\n"),
+    (0, 3000, "\n"),
+    (4096, 3, "\n"),
+    (32768, 3, "\r\n"),
+    (65536, 3, "\n"),
+    (1048576, 3, "\n"),
+];
+
+#[test]
+fn files_are_written(rt: HostRuntime) -> Result<(), AllocError> {
+    for (before, count, end) in FILES {
+        let text = text_with(rt.alloc(), before, u32::from(count), end)?;
+        let wanted = wanted_for(rt.alloc(), before, u32::from(count), end)?;
+        let found = written(rt.alloc(), text.as_str(), count)?;
+        assert!(rt;
+            found.as_str() == wanted.as_str(),
+            "{count} items behind {before} bytes"
+        );
+    }
+    Ok(())
+}

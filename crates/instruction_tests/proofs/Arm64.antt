@@ -1,0 +1,52 @@
+-- What is read is an instruction of AArch64, the greatest values fit their registers, and each form below 341 is known.
+use Rattle.std.proofs.Common.{◌≡◌, refl, ℕ, List, ◌<◌, ◌≤◌, arith, subst, sym, lit<}
+use Rattle.std.specs.Prelude.{Result, Ok, Err, IfOk}
+use Rattle.sl_model.specs.declared.register.Bank.{Bank}
+use Rattle.sl_model.specs.declared.register.Bank.TheVariants.{General, Vector, Flags, Stack}
+use Rattle.sl_model.specs.declared.instruction.Instr.{Instr}
+use Rattle.sl_model.specs.Token.{Lexeme}
+use Rattle.sl_isa.specs.Arch.{reason_of}
+use Rattle.sl_model.specs.Lawful.{IsValid}
+use Rattle.sl_model.specs.Answers.{Gives}
+use Rattle.sl_isa.specs.declared.reasons.FormErr.{FormErr}
+use Rattle.sl_isa.specs.declared.reasons.FormErr.TheVariants.{Refused, NoMemory}
+use Rattle.form_isa.specs.TableIsa.{table_isa, table_language}
+use Rattle.arm64_table.specs.Document.{each, document}
+use Rattle.arm64_table.specs.Arm64.{arm64}
+use Rattle.arm64_table.specs.Laws.{arm64_lawful}
+use Rattle.sl_model.specs.Machine.{limit_of}
+
+pub read_is_valid : (answer : Result Instr FormErr) (words : List Lexeme) → Gives reason_of (λ i. i) answer (arm64.reads words) → IfOk answer (λ i. IsValid arm64.isa i)
+read_is_valid (Ok i) words e = (arm64_lawful.read words i e).valid
+read_is_valid (Err (Refused reason)) words e = tt
+read_is_valid (Err NoMemory) words e = tt
+
+-- a value below the limit of one bank, where a register is of that bank
+pub in_bank : (wanted bank : Bank) (value : ℕ) → bank ≡ wanted → value < limit_of arm64.isa.name wanted → value < limit_of arm64.isa.name bank
+in_bank wanted bank value is fits = subst (λ b. value < limit_of arm64.isa.name b) (sym is) fits
+
+pub general : 18446744073709551615 < limit_of arm64.isa.name General
+unfolding arm64 table_language table_isa
+general = lit< tt
+
+pub vector : 340282366920938463463374607431768211455 < limit_of arm64.isa.name Vector
+unfolding arm64 table_language table_isa
+vector = lit< tt
+
+pub flags : 15 < limit_of arm64.isa.name Flags
+unfolding arm64 table_language table_isa
+flags = lit< tt
+
+pub stack : 18446744073709551615 < limit_of arm64.isa.name Stack
+unfolding arm64 table_language table_isa
+stack = lit< tt
+
+pub below : (value most limit : ℕ) → value ≤ most → most < limit → value < limit
+below value most limit p q = omega (arith, p, q)
+
+forms_are_341 : arm64.isa.forms ≡ 341
+unfolding arm64 table_language table_isa document each
+forms_are_341 = refl
+
+pub is_known : (form : ℕ) → form < 341 → form < arm64.isa.forms
+is_known form h = subst (λ n. form < n) (sym forms_are_341) h

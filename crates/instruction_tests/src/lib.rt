@@ -1,0 +1,27 @@
+//! Tests of what instructions compute, and of how they are read and printed.
+#![tactic(auto)]
+
+#[cfg(test)]
+mod bits;
+#[cfg(test)]
+mod classes;
+#[cfg(test)]
+mod form_rows;
+#[cfg(test)]
+mod reading;
+#[cfg(test)]
+mod result_rows;
+#[cfg(test)]
+mod results;
+#[cfg(test)]
+mod rows;
+#[cfg(test)]
+mod scalars;
+#[cfg(test)]
+mod spelling_rows;
+#[cfg(test)]
+mod spellings;
+#[cfg(test)]
+mod tables;
+#[cfg(test)]
+mod vectors;

@@ -1,0 +1,4 @@
+-- The lemmas that other crates cite.
+pub use Rattle.renamer.proofs.LegalityRules.{suits_operands}
+pub use Rattle.renamer.proofs.StraightLeaves.{straight-leaves}
+pub use Rattle.renamer.proofs.StraightPosed.{Makes, makes-last, straight-sound, straight_sources}

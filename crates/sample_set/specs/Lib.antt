@@ -1,0 +1,3 @@
+pub mod FewForms
+pub mod FewLaws
+pub mod Laws

@@ -1,0 +1,11 @@
+//! Tests of costs, cycles, problems and schedules.
+#![tactic(auto)]
+
+#[cfg(test)]
+mod applying;
+#[cfg(test)]
+mod chains;
+#[cfg(test)]
+mod issue;
+#[cfg(test)]
+mod problems;

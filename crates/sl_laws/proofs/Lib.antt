@@ -1,0 +1,16 @@
+pub mod Tests
+pub mod Elements
+pub mod Members
+pub mod Registers
+pub mod Padded
+pub mod RegSets
+pub mod Sources
+pub mod Orders
+pub mod Numbers
+pub mod Valid
+pub mod State
+pub mod Rules
+pub mod Cycles
+pub mod Texts
+pub mod Machines
+pub mod Digits

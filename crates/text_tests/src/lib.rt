@@ -1,0 +1,11 @@
+//! Tests of lines and tokens, symbols, states and state files.
+#![tactic(auto)]
+
+#[cfg(test)]
+mod lines;
+#[cfg(test)]
+mod running;
+#[cfg(test)]
+mod state_files;
+#[cfg(test)]
+mod symbols;
