@@ -3,7 +3,12 @@
 //! checker computes them from the definitions.
 #![tactic(auto)]
 
+ghost use Rattle.std.specs.Prelude.{◌≡◌, [], ◌∷◌};
+ghost use Rattle.sl_model.specs.Body.{applied};
+ghost use Rattle.sl_model.specs.Lawful.{IsLawful, AreValid};
+ghost use Rattle.sl_model.specs.Legal.{IsFullLegal, body_of};
 ghost use Rattle.edge_cases.specs.Edges.{OfNothing, OfZero, OfLastAddress, OfRanges, OfWidths, OfOneItem, OfAccesses};
+ghost use Rattle.edge_cases.specs.Example.{adding_isa, adding_items, adding_problem, adding_schedule, add, general, BreakRules};
 
 /// An empty list takes no cycle, leaves the state, and has one schedule, which is empty.
 pub fn nothing_takes_no_cycle()
@@ -39,4 +44,17 @@ pub fn an_item_reads_before_it_writes()
 /// bases and tags decide the rest.
 pub fn accesses_conflict_where_they_may_share_a_byte()
     ensures { OfAccesses }
+{}
+
+/// What theorems on schedules ask for can be met. A set that only adds is lawful, the items
+/// `r1 = r0 + r0`, `r2 = r1 + r1` and `r4 = r0 + r0` are valid, and a schedule that puts the last
+/// first, and the first into r3, is legal. Other choices break a rule.
+pub fn a_legal_schedule_exists()
+    ensures lawful { IsLawful adding_isa }
+    ensures valid { AreValid adding_isa adding_items }
+    ensures legal { IsFullLegal adding_isa adding_problem adding_schedule }
+    ensures new_list { applied (body_of adding_problem) adding_schedule
+        ≡ add (general 4) (general 0) (general 0) ∷ add (general 3) (general 0) (general 0)
+        ∷ add (general 2) (general 3) (general 3) ∷ [] }
+    ensures broken { BreakRules }
 {}
