@@ -340,3 +340,87 @@
         umov w3, v17.h[7]
         umov w3, v17.s[3]
         umov x3, v17.d[1]
+        ldr x3, [x17]
+        ldr x3, [x17, #32760]
+        ldr x3, [x17], #255
+        ldr x3, [x17, #255]!
+        ldr w3, [x17]
+        ldr w3, [x17, #16380]
+        ldr w3, [x17], #255
+        ldr w3, [x17, #255]!
+        ldr q3, [x17]
+        ldr q3, [x17, #65520]
+        ldr q3, [x17], #255
+        ldr q3, [x17, #255]!
+        ldr d3, [x17]
+        ldr d3, [x17, #32760]
+        ldr d3, [x17], #255
+        ldr d3, [x17, #255]!
+        ldr s3, [x17]
+        ldr s3, [x17, #16380]
+        ldr s3, [x17], #255
+        ldr s3, [x17, #255]!
+        str x3, [x17]
+        str x3, [x17, #32760]
+        str x3, [x17], #255
+        str x3, [x17, #255]!
+        str w3, [x17]
+        str w3, [x17, #16380]
+        str w3, [x17], #255
+        str w3, [x17, #255]!
+        str q3, [x17]
+        str q3, [x17, #65520]
+        str q3, [x17], #255
+        str q3, [x17, #255]!
+        str d3, [x17]
+        str d3, [x17, #32760]
+        str d3, [x17], #255
+        str d3, [x17, #255]!
+        str s3, [x17]
+        str s3, [x17, #16380]
+        str s3, [x17], #255
+        str s3, [x17, #255]!
+        ldur x3, [x17]
+        ldur x3, [x17, #255]
+        ldur w3, [x17]
+        ldur w3, [x17, #255]
+        ldur q3, [x17]
+        ldur q3, [x17, #255]
+        ldur d3, [x17]
+        ldur d3, [x17, #255]
+        ldur s3, [x17]
+        ldur s3, [x17, #255]
+        stur x3, [x17]
+        stur x3, [x17, #255]
+        stur w3, [x17]
+        stur w3, [x17, #255]
+        stur q3, [x17]
+        stur q3, [x17, #255]
+        stur d3, [x17]
+        stur d3, [x17, #255]
+        stur s3, [x17]
+        stur s3, [x17, #255]
+        ldp x3, x17, [x29]
+        ldp x3, x17, [x29, #504]
+        ldp x3, x17, [x29], #504
+        ldp x3, x17, [x29, #504]!
+        ldp d3, d17, [x29]
+        ldp d3, d17, [x29, #504]
+        ldp d3, d17, [x29], #504
+        ldp d3, d17, [x29, #504]!
+        ldp q3, q17, [x29]
+        ldp q3, q17, [x29, #1008]
+        ldp q3, q17, [x29], #1008
+        ldp q3, q17, [x29, #1008]!
+        stp x3, x17, [x29]
+        stp x3, x17, [x29, #504]
+        stp x3, x17, [x29], #504
+        stp x3, x17, [x29, #504]!
+        stp d3, d17, [x29]
+        stp d3, d17, [x29, #504]
+        stp d3, d17, [x29], #504
+        stp d3, d17, [x29, #504]!
+        stp q3, q17, [x29]
+        stp q3, q17, [x29, #1008]
+        stp q3, q17, [x29], #1008
+        stp q3, q17, [x29, #1008]!

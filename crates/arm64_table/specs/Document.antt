@@ -1,7 +1,9 @@
 -- The forms of AArch64 that are read, family by family: their spellings, the numbers and registers
 -- that they take, their cost classes and their meanings. Source: DDI 0487, A64 base and Advanced
 -- SIMD instructions; which forms, ranges and places of the zero register are taken is a profile.
-use Rattle.std.specs.Prelude.{ℕ, pos, ◌+◌, ◌-◌, ◌*◌, ◌^◌, Bool, true, false, List, [], ◌∷◌, ◌++◌, codes, slice_index_or}
+use Rattle.std.specs.Prelude.{ℕ, pos, ◌+◌, ◌-◌, ◌*◌, ◌^◌, ◌-ℤ◌, Bool, true, false, List, [], ◌∷◌, ◌++◌, codes, slice_index_or}
+use Rattle.sl_model.specs.declared.register.Bank.{Bank}
+use Rattle.sl_model.specs.declared.register.Bank.TheVariants as bank
 use Rattle.sl_model.specs.declared.register.RegSet.{RegSet}
 use Rattle.sl_isa.specs.Arch.{padded_values}
 use Rattle.sl_isa.specs.declared.meaning.Size.{Size}
@@ -28,6 +30,10 @@ use Rattle.sl_isa.specs.declared.meaning.Permutation.{Permutation}
 use Rattle.sl_isa.specs.declared.meaning.Permutation.TheVariants as permutation
 use Rattle.sl_isa.specs.declared.meaning.Vector.{Vector}
 use Rattle.sl_isa.specs.declared.meaning.Vector.TheVariants as vector
+use Rattle.sl_isa.specs.declared.meaning.Width.{Width}
+use Rattle.sl_isa.specs.declared.meaning.Width.TheVariants as width
+use Rattle.sl_isa.specs.declared.meaning.Addressing.{Addressing}
+use Rattle.sl_isa.specs.declared.meaning.Addressing.TheVariants as addressing
 use Rattle.sl_isa.specs.declared.meaning.Meaning.{Meaning}
 use Rattle.sl_isa.specs.declared.meaning.Meaning.TheVariants as meaning
 use Rattle.form_table.specs.declared.rows.Letter.{Letter}
@@ -37,7 +43,7 @@ use Rattle.form_table.specs.declared.rows.Name.TheVariants as name
 use Rattle.form_table.specs.declared.rows.Shape.{Shape}
 use Rattle.form_table.specs.declared.rows.Shape.TheVariants as shape
 use Rattle.form_table.specs.declared.rows.Role.{Role}
-use Rattle.form_table.specs.declared.rows.Role.TheVariants.{In, Out, Tied}
+use Rattle.form_table.specs.declared.rows.Role.TheVariants.{In, Out, Tied, Base, Back}
 use Rattle.form_table.specs.declared.rows.Range.{Range}
 use Rattle.form_table.specs.declared.rows.Operand.{Operand}
 use Rattle.form_table.specs.declared.rows.Sum.TheVariants as total
@@ -517,6 +523,177 @@ lane_order_rows =
     ++ (each dup_general all ++ (each insert_general all_lanes ++ (each insert_lane all_lanes
     ++ each move_out all_lanes)))))))))))))))))
 
+-- A register that is loaded or stored: how it is spelled, its bank, its bytes, and which registers
+-- may be loaded and stored.
+pub record Data : Type 0 where
+  pub letter : Letter
+  pub bank : Bank
+  pub width : Width
+  pub size : ℕ
+  pub loaded : RegSet
+  pub stored : RegSet
+
+-- X, of which the zero register may be stored
+abbrev pub x_data : Data
+x_data = record {
+  letter = letter.X;
+  bank = bank.General;
+  width = width.Double;
+  size = 8;
+  loaded = general;
+  stored = general_or_zero;
+}
+
+-- W, the same
+abbrev pub w_data : Data
+w_data = record x_data { letter = letter.W; width = width.Word; size = 4 }
+
+-- Q
+abbrev pub q_data : Data
+q_data = record {
+  letter = letter.Q;
+  bank = bank.Vector;
+  width = width.Quad;
+  size = 16;
+  loaded = vectors;
+  stored = vectors;
+}
+
+-- D
+abbrev pub d_data : Data
+d_data = record q_data { letter = letter.D; width = width.Double; size = 8 }
+
+-- S
+abbrev pub s_data : Data
+s_data = record q_data { letter = letter.S; width = width.Word; size = 4 }
+
+-- t, which is loaded or stored
+abbrev pub moved : Bool → Data → Operand
+moved false t = register (shape.Register t.letter) Out t.loaded
+moved true t = register (shape.Register t.letter) In t.stored
+
+-- t, or t twice for a pair
+abbrev pub all_moved : Bool → Bool → Data → List Operand
+all_moved store false t = moved store t ∷ []
+all_moved store true t = moved store t ∷ moved store t ∷ []
+
+-- x0 to x30 and sp
+abbrev pub bases : RegSet
+bases = record { bits = 2 ^ 31 - 1 + 2 ^ 65 }
+
+-- [Xn]
+abbrev pub at_base : Operand
+at_base = register (shape.Base letter.X) Base bases
+
+-- [Xn, #i]
+abbrev pub at_offset : Range → Operand
+at_offset range =
+    record { shape = shape.Offset letter.X; role = Base; class = bases; range = range }
+
+-- [Xn], which is written back
+abbrev pub back : Operand
+back = register (shape.Base letter.X) Back general
+
+-- [Xn, #i]!, which is written back
+abbrev pub before : Range → Operand
+before range = record { shape = shape.Before letter.X; role = Back; class = general; range = range }
+
+-- the offsets of so many bytes from 0 on
+abbrev pub forward : ℕ → Range
+forward size = range 0 (4095 * size) size
+
+-- those of single bytes both ways
+abbrev pub around : Range
+around = record { least = pos 0 -ℤ pos 256; most = pos 255; step = 1 }
+
+-- those of so many bytes both ways
+abbrev pub around_pair : ℕ → Range
+around_pair size =
+    record { least = pos 0 -ℤ pos (64 * size); most = pos (63 * size); step = size }
+
+-- the cost class of loads or stores
+abbrev pub access_class : Bool → ℕ
+access_class false = 3
+access_class true = 4
+
+-- a row that loads or stores t, or a pair
+abbrev pub access_row : List ℕ → Bool → Bool → Data → List Operand → Addressing → Row
+access_row mnemonic store pair t base addressing =
+    row mnemonic (all_moved store pair t ++ base) false false (access_class store)
+    (meaning.Memory (record {
+      store = store;
+      pair = pair;
+      bank = t.bank;
+      width = t.width;
+      addressing = addressing;
+    }))
+
+-- the place of the base
+abbrev pub behind : Bool → ℕ
+behind false = 1
+behind true = 2
+
+-- op t, [Xn {, #i}]: without number, then with it; 0 is kept as the form with this number
+abbrev pub plain_access : List ℕ → Bool → Bool → Range → ℕ → Data → List Row
+plain_access mnemonic store pair offsets form t =
+    access_row mnemonic store pair t (at_base ∷ []) addressing.Kept
+    ∷ without_zero (access_row mnemonic store pair t (at_offset offsets ∷ []) addressing.Kept) form
+    (behind pair)
+    ∷ []
+
+-- op t, [Xn], #i; op t, [Xn, #i]!
+abbrev pub moving_access : List ℕ → Bool → Bool → Range → Data → List Row
+moving_access mnemonic store pair offsets t =
+    access_row mnemonic store pair t (back ∷ number offsets ∷ []) addressing.After
+    ∷ access_row mnemonic store pair t (before offsets ∷ []) addressing.Before
+    ∷ []
+
+-- ldr, str for one t, where the first row has this number
+abbrev pub single_access : List ℕ → Bool → ℕ → Data → List Row
+single_access mnemonic store form t =
+    plain_access mnemonic store false (forward t.size) form t
+    ++ moving_access mnemonic store false around t
+
+-- for each
+abbrev pub single_accesses : List ℕ → Bool → ℕ → List Row
+single_accesses mnemonic store form =
+    single_access mnemonic store form x_data
+    ++ (single_access mnemonic store (form + 4) w_data
+    ++ (single_access mnemonic store (form + 8) q_data
+    ++ (single_access mnemonic store (form + 12) d_data
+    ++ single_access mnemonic store (form + 16) s_data)))
+
+-- ldur, stur, where the first row has this number
+abbrev pub unscaled_accesses : List ℕ → Bool → ℕ → List Row
+unscaled_accesses mnemonic store form =
+    plain_access mnemonic store false around form x_data
+    ++ (plain_access mnemonic store false around (form + 2) w_data
+    ++ (plain_access mnemonic store false around (form + 4) q_data
+    ++ (plain_access mnemonic store false around (form + 6) d_data
+    ++ plain_access mnemonic store false around (form + 8) s_data)))
+
+-- ldp, stp for one t, where the first row has this number
+abbrev pub pair_access : List ℕ → Bool → ℕ → Data → List Row
+pair_access mnemonic store form t =
+    plain_access mnemonic store true (around_pair t.size) form t
+    ++ moving_access mnemonic store true (around_pair t.size) t
+
+-- for each, which is X, D or Q
+abbrev pub pair_accesses : List ℕ → Bool → ℕ → List Row
+pair_accesses mnemonic store form =
+    pair_access mnemonic store form x_data
+    ++ (pair_access mnemonic store (form + 4) d_data
+    ++ pair_access mnemonic store (form + 8) q_data)
+
+-- accesses to memory
+abbrev pub memory_rows : List Row
+memory_rows =
+    single_accesses (codes "ldr") false 341
+    ++ (single_accesses (codes "str") true 361
+    ++ (unscaled_accesses (codes "ldur") false 381
+    ++ (unscaled_accesses (codes "stur") true 391
+    ++ (pair_accesses (codes "ldp") false 401 ++ pair_accesses (codes "stp") true 413))))
+
 -- the forms, numbered in this order from 0
 unfoldable pub document : List Row
-document = scalar_rows ++ (lane_sum_rows ++ lane_order_rows)
+document = scalar_rows ++ (lane_sum_rows ++ (lane_order_rows ++ memory_rows))

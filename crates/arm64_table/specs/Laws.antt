@@ -1,10 +1,11 @@
 -- The laws of AArch64: what the tests of its table give.
 use Rattle.std.proofs.Common.{◌≡◌, refl, true}
+use Rattle.sl_model.specs.RegSets.{set_count}
 use Rattle.sl_isa.specs.Arch.{padded_values}
 use Rattle.sl_isa.specs.Language.{IsLanguage}
 use Rattle.form_table.specs.Rows.{mnemonic_text}
 use Rattle.form_table.specs.Tables.{is_readable}
-use Rattle.form_isa.specs.Info.{classes, input_classes, output_classes}
+use Rattle.form_isa.specs.Info.{classes, input_classes, output_classes, padded_classes, places_of}
 use Rattle.form_isa.specs.TableIsa.{ranges}
 use Rattle.form_isa.specs.LawfulTable.{are_only_of, is_last_number, is_lawful_table}
 use Rattle.form_isa.proofs.ForCallers.{table-language}
@@ -19,7 +20,8 @@ readable = refl
 
 -- AArch64 passes the test of lawful tables
 pub tested : is_lawful_table document ≡ true
-unfolding padded_values each document is_lawful_table input_classes output_classes classes are_only_of is_last_number ranges
+unfolding padded_values each document is_lawful_table input_classes output_classes classes padded_classes places_of set_count
+    are_only_of is_last_number ranges
 tested = refl
 
 -- the laws

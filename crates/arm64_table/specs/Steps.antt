@@ -28,7 +28,7 @@ use Rattle.sl_isa.specs.Arch.{padded_values}
 use Rattle.scalar_ops.specs.Scalar.{second_of, scalar_values}
 use Rattle.form_table.specs.declared.rows.Row.{Row}
 use Rattle.form_table.specs.Reads.{in_range}
-use Rattle.form_isa.specs.Info.{the_flags, classes, input_classes, output_classes, padded_classes, ties, padded_ties, info_of, info_at}
+use Rattle.form_isa.specs.Info.{the_flags, classes, input_classes, output_classes, padded_classes, ties, places_of, all_ties, padded_ties, info_of, info_at}
 use Rattle.form_isa.specs.TableIsa.{ranges, numbers_fit, takes, is_valid, row_values, table_isa}
 use Rattle.arm64_table.specs.Document.{each, document, general, to, from, any, number, range, amount, plain, alu, alus, sum_row}
 use Rattle.arm64_table.specs.Arm64.{arm64_step, step_form, step_number, step_flags}
@@ -82,7 +82,7 @@ record MakesStep (row : Option Row) (op : CounterOp) (counter : Reg) : Type 0 wh
   no_access : has_access (info_at row) ≡ false
   writes : written op counter ≡ step_outputs op counter
   value : (n : ℕ) → n < 2 ^ 64
-      → slice_index (row_values row (step_imms op) (n ∷ [])) 0 ≡ stepped op (2 ^ 64) n
+      → slice_index (row_values Arm64 row (step_imms op) (n ∷ []) []) 0 ≡ stepped op (2 ^ 64) n
 
 -- a register of the machine or a symbolic one, of any bank
 abbrev a_register : Bank → Bool → ℕ → Reg
@@ -162,7 +162,7 @@ small by most h few = omega (arith, h, few)
 -- Each row makes its step.
 row_makes : (op : CounterOp) (number : ℕ) → number < 31 → IsStep op
     → MakesStep (Some (step_row op)) op (x_register number)
-unfolding takes ranges numbers_fit in_range set_count info_of input_classes output_classes classes padded_classes ties padded_ties
+unfolding takes ranges numbers_fit in_range set_count info_of input_classes output_classes classes padded_classes ties places_of all_ties padded_ties
     all_differ place_from same_reg second_of scalar_values
 row_makes (Sub by) number h step = record {
   valid = takes_less by step.0 step.1;

@@ -14,7 +14,7 @@ use sl_isa::{
 use sl_text::Token;
 use std::alloc::Global;
 
-#[tactic(auto, unfolding(crate::specs::Arm64::arm64, crate::specs::Arm64::arm64_step, form_isa::specs::TableIsa::table_language, form_isa::specs::TableIsa::table_isa, sl_isa::specs::Arch::padded_values), using(crate::proofs::Accesses::no_access, crate::proofs::Accesses::nothing_stored))]
+#[tactic(auto, unfolding(crate::specs::Arm64::arm64, crate::specs::Arm64::arm64_step, form_isa::specs::TableIsa::table_language, form_isa::specs::TableIsa::table_isa, sl_isa::specs::Arch::access_of), using(form_isa::proofs::ForCallers::stored_is))]
 impl Arch for Arm64 {
     ghost language = { arm64 };
 
@@ -26,8 +26,8 @@ impl Arch for Arm64 {
         info_of(form)
     }
 
-    fn offset(&self, _instr: &Instr) -> i64 {
-        0
+    fn offset(&self, instr: &Instr) -> i64 {
+        executing::offset_of(instr)
     }
 
     fn read_form(&self, alloc: Global, tokens: &[Token<'_>]) -> Result<Instr, FormErr> {
@@ -38,14 +38,15 @@ impl Arch for Arm64 {
         reading::print_form(instr, out)
     }
 
-    fn access(&self, _instr: &Instr, _ins: &[u128]) -> Option<Access> {
-        None
+    fn access(&self, instr: &Instr, ins: &[u128]) -> Option<Access> {
+        let offset = executing::offset_of(instr);
+        form_isa::access_of(ArchName::Arm64, &info_of(instr.form), offset, ins)
     }
 
-    fn exec(&self, instr: &Instr, ins: &[u128], _loaded: &[u8]) -> Outs {
+    fn exec(&self, instr: &Instr, ins: &[u128], loaded: &[u8]) -> Outs {
         Outs {
-            regs: executing::values_of(instr, ins),
-            bytes: [0; 32],
+            regs: executing::values_of(instr, ins, loaded),
+            bytes: executing::bytes_of(instr, ins),
         }
     }
 

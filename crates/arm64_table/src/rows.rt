@@ -3,15 +3,15 @@
 ghost use Rattle.std.specs.Prelude.{◌≡◌, true, length};
 ghost use Rattle.form_table.specs.Tables.{is_readable};
 ghost use Rattle.form_table.specs.TableRows.{rows_of};
-ghost use Rattle.arm64_table.specs.Document.{scalar_rows, lane_sum_rows, lane_order_rows, document};
+ghost use Rattle.arm64_table.specs.Document.{scalar_rows, lane_sum_rows, lane_order_rows, memory_rows, document};
 
 use form_table::rows::{Alias, Letter, Name, Operand, Range, Role, Row, Shape, Sum};
 use form_table::table::Table;
-use sl_isa::RegSet;
 use sl_isa::meaning::{
-    Arrangement, Lane, LaneOp, LaneShift, Logic, Meaning, Permutation, Product, Scalar, Second,
-    Shift, Size, Vector,
+    Addressing, Arrangement, Lane, LaneOp, LaneShift, Logic, Meaning, Permutation, Product, Scalar,
+    Second, Shift, Size, Transfer, Vector, Width,
 };
+use sl_isa::{Bank, RegSet};
 
 // The cost classes, in the order of the core tables.
 const ALU: u8 = 0;
@@ -19,6 +19,10 @@ const ALU: u8 = 0;
 const ALUS: u8 = 1;
 
 const MUL: u8 = 2;
+
+const LOAD: u8 = 3;
+
+const STORE: u8 = 4;
 
 const VALU: u8 = 5;
 
@@ -30,7 +34,7 @@ const VPERM: u8 = 8;
 
 const VXFER: u8 = 9;
 
-// No register, x0 to x30, these and the zero register, v0 to v31, and v0 to v15.
+// No register, x0 to x30, these and the zero register, these and sp, v0 to v31, and v0 to v15.
 const NO_REGISTER: RegSet = RegSet { bits: 0 };
 
 const GENERAL: RegSet = RegSet {
@@ -39,6 +43,10 @@ const GENERAL: RegSet = RegSet {
 
 const GENERAL_OR_ZERO: RegSet = RegSet {
     bits: (1 << 32) - 1,
+};
+
+const GENERAL_OR_STACK: RegSet = RegSet {
+    bits: ((1 << 31) - 1) | (1 << 65),
 };
 
 const VECTOR: RegSet = RegSet {
@@ -185,6 +193,47 @@ const H_ELEMENT: Operand = operand!(Lane(Name::LaneH) => In, LOW_VECTOR, 0 to 7 
 
 const S_ELEMENT: Operand = operand!(Lane(Name::LaneS) => In, VECTOR, 0 to 3 by 1);
 
+const TO_Q: Operand = operand!(Register(Letter::Q) => Out, VECTOR, 0 to 0 by 1);
+
+const Q: Operand = operand!(Register(Letter::Q) => In, VECTOR, 0 to 0 by 1);
+
+const TO_D: Operand = operand!(Register(Letter::D) => Out, VECTOR, 0 to 0 by 1);
+
+const D: Operand = operand!(Register(Letter::D) => In, VECTOR, 0 to 0 by 1);
+
+const TO_S: Operand = operand!(Register(Letter::S) => Out, VECTOR, 0 to 0 by 1);
+
+const S: Operand = operand!(Register(Letter::S) => In, VECTOR, 0 to 0 by 1);
+
+const BASE: Operand = operand!(Base(Letter::X) => Base, GENERAL_OR_STACK, 0 to 0 by 1);
+
+const BACK: Operand = operand!(Base(Letter::X) => Back, GENERAL, 0 to 0 by 1);
+
+const FORWARD_4: Operand = operand!(Offset(Letter::X) => Base, GENERAL_OR_STACK, 0 to 16380 by 4);
+
+const FORWARD_8: Operand = operand!(Offset(Letter::X) => Base, GENERAL_OR_STACK, 0 to 32760 by 8);
+
+const FORWARD_16: Operand = operand!(Offset(Letter::X) => Base, GENERAL_OR_STACK, 0 to 65520 by 16);
+
+const AROUND: Operand = operand!(Offset(Letter::X) => Base, GENERAL_OR_STACK, -256 to 255 by 1);
+
+const AROUND_8: Operand = operand!(Offset(Letter::X) => Base, GENERAL_OR_STACK, -512 to 504 by 8);
+
+const AROUND_16: Operand =
+    operand!(Offset(Letter::X) => Base, GENERAL_OR_STACK, -1024 to 1008 by 16);
+
+const BEFORE: Operand = operand!(Before(Letter::X) => Back, GENERAL, -256 to 255 by 1);
+
+const BEFORE_8: Operand = operand!(Before(Letter::X) => Back, GENERAL, -512 to 504 by 8);
+
+const BEFORE_16: Operand = operand!(Before(Letter::X) => Back, GENERAL, -1024 to 1008 by 16);
+
+const BY: Operand = operand!(Number => In, NO_REGISTER, -256 to 255 by 1);
+
+const BY_8: Operand = operand!(Number => In, NO_REGISTER, -512 to 504 by 8);
+
+const BY_16: Operand = operand!(Number => In, NO_REGISTER, -1024 to 1008 by 16);
+
 const REGISTER: Second = Second::Register;
 
 const LSL: Second = Second::Shifted(Shift::Lsl);
@@ -283,6 +332,37 @@ macro_rules! vector {
 
 macro_rules! lane {
     ($op:ident, $lane:ident) => { Meaning::Vector(Vector::$op { lane: Lane::$lane }) };
+}
+
+// Meanings of accesses, by the letter of what is loaded or stored.
+macro_rules! load {
+    ($t:tt, $addressing:ident) => { access!(false, false, $t, $addressing) };
+}
+
+macro_rules! store {
+    ($t:tt, $addressing:ident) => { access!(true, false, $t, $addressing) };
+}
+
+macro_rules! load_pair {
+    ($t:tt, $addressing:ident) => { access!(false, true, $t, $addressing) };
+}
+
+macro_rules! store_pair {
+    ($t:tt, $addressing:ident) => { access!(true, true, $t, $addressing) };
+}
+
+macro_rules! access {
+    ($store:expr, $pair:expr, X, $addressing:ident) => { transfer!($store, $pair, General, Double, $addressing) };
+    ($store:expr, $pair:expr, W, $addressing:ident) => { transfer!($store, $pair, General, Word, $addressing) };
+    ($store:expr, $pair:expr, Q, $addressing:ident) => { transfer!($store, $pair, Vector, Quad, $addressing) };
+    ($store:expr, $pair:expr, D, $addressing:ident) => { transfer!($store, $pair, Vector, Double, $addressing) };
+    ($store:expr, $pair:expr, S, $addressing:ident) => { transfer!($store, $pair, Vector, Word, $addressing) };
+}
+
+macro_rules! transfer {
+    ($store:expr, $pair:expr, $bank:ident, $width:ident, $addressing:ident) => {
+        Meaning::Memory(Transfer { store: $store, pair: $pair, bank: Bank::$bank, width: Width::$width, addressing: Addressing::$addressing })
+    };
 }
 
 // A row: whether it reads and sets the flags, its mnemonic filled up with zeros, its two to four
@@ -716,6 +796,98 @@ static LANE_ROWS: [Row; 115] = [
     row!(b"umov\0\0\0\0" => [TO_X, D_LANE], VXFER, lane!(MoveOut, Double)),
 ];
 
+static MEMORY_ROWS: [Row; 84] = [
+    // Registers loaded.
+    row!(b"ldr\0\0\0\0\0" => [TO_X, BASE], LOAD, load!(X, Kept)),
+    row!(b"ldr\0\0\0\0\0" => [TO_X, FORWARD_8], LOAD, load!(X, Kept); zero 341 at 1),
+    row!(b"ldr\0\0\0\0\0" => [TO_X, BACK, BY], LOAD, load!(X, After)),
+    row!(b"ldr\0\0\0\0\0" => [TO_X, BEFORE], LOAD, load!(X, Before)),
+    row!(b"ldr\0\0\0\0\0" => [TO_W, BASE], LOAD, load!(W, Kept)),
+    row!(b"ldr\0\0\0\0\0" => [TO_W, FORWARD_4], LOAD, load!(W, Kept); zero 345 at 1),
+    row!(b"ldr\0\0\0\0\0" => [TO_W, BACK, BY], LOAD, load!(W, After)),
+    row!(b"ldr\0\0\0\0\0" => [TO_W, BEFORE], LOAD, load!(W, Before)),
+    row!(b"ldr\0\0\0\0\0" => [TO_Q, BASE], LOAD, load!(Q, Kept)),
+    row!(b"ldr\0\0\0\0\0" => [TO_Q, FORWARD_16], LOAD, load!(Q, Kept); zero 349 at 1),
+    row!(b"ldr\0\0\0\0\0" => [TO_Q, BACK, BY], LOAD, load!(Q, After)),
+    row!(b"ldr\0\0\0\0\0" => [TO_Q, BEFORE], LOAD, load!(Q, Before)),
+    row!(b"ldr\0\0\0\0\0" => [TO_D, BASE], LOAD, load!(D, Kept)),
+    row!(b"ldr\0\0\0\0\0" => [TO_D, FORWARD_8], LOAD, load!(D, Kept); zero 353 at 1),
+    row!(b"ldr\0\0\0\0\0" => [TO_D, BACK, BY], LOAD, load!(D, After)),
+    row!(b"ldr\0\0\0\0\0" => [TO_D, BEFORE], LOAD, load!(D, Before)),
+    row!(b"ldr\0\0\0\0\0" => [TO_S, BASE], LOAD, load!(S, Kept)),
+    row!(b"ldr\0\0\0\0\0" => [TO_S, FORWARD_4], LOAD, load!(S, Kept); zero 357 at 1),
+    row!(b"ldr\0\0\0\0\0" => [TO_S, BACK, BY], LOAD, load!(S, After)),
+    row!(b"ldr\0\0\0\0\0" => [TO_S, BEFORE], LOAD, load!(S, Before)),
+    // Registers stored.
+    row!(b"str\0\0\0\0\0" => [ANY_X, BASE], STORE, store!(X, Kept)),
+    row!(b"str\0\0\0\0\0" => [ANY_X, FORWARD_8], STORE, store!(X, Kept); zero 361 at 1),
+    row!(b"str\0\0\0\0\0" => [ANY_X, BACK, BY], STORE, store!(X, After)),
+    row!(b"str\0\0\0\0\0" => [ANY_X, BEFORE], STORE, store!(X, Before)),
+    row!(b"str\0\0\0\0\0" => [ANY_W, BASE], STORE, store!(W, Kept)),
+    row!(b"str\0\0\0\0\0" => [ANY_W, FORWARD_4], STORE, store!(W, Kept); zero 365 at 1),
+    row!(b"str\0\0\0\0\0" => [ANY_W, BACK, BY], STORE, store!(W, After)),
+    row!(b"str\0\0\0\0\0" => [ANY_W, BEFORE], STORE, store!(W, Before)),
+    row!(b"str\0\0\0\0\0" => [Q, BASE], STORE, store!(Q, Kept)),
+    row!(b"str\0\0\0\0\0" => [Q, FORWARD_16], STORE, store!(Q, Kept); zero 369 at 1),
+    row!(b"str\0\0\0\0\0" => [Q, BACK, BY], STORE, store!(Q, After)),
+    row!(b"str\0\0\0\0\0" => [Q, BEFORE], STORE, store!(Q, Before)),
+    row!(b"str\0\0\0\0\0" => [D, BASE], STORE, store!(D, Kept)),
+    row!(b"str\0\0\0\0\0" => [D, FORWARD_8], STORE, store!(D, Kept); zero 373 at 1),
+    row!(b"str\0\0\0\0\0" => [D, BACK, BY], STORE, store!(D, After)),
+    row!(b"str\0\0\0\0\0" => [D, BEFORE], STORE, store!(D, Before)),
+    row!(b"str\0\0\0\0\0" => [S, BASE], STORE, store!(S, Kept)),
+    row!(b"str\0\0\0\0\0" => [S, FORWARD_4], STORE, store!(S, Kept); zero 377 at 1),
+    row!(b"str\0\0\0\0\0" => [S, BACK, BY], STORE, store!(S, After)),
+    row!(b"str\0\0\0\0\0" => [S, BEFORE], STORE, store!(S, Before)),
+    // The same at all offsets near the base.
+    row!(b"ldur\0\0\0\0" => [TO_X, BASE], LOAD, load!(X, Kept)),
+    row!(b"ldur\0\0\0\0" => [TO_X, AROUND], LOAD, load!(X, Kept); zero 381 at 1),
+    row!(b"ldur\0\0\0\0" => [TO_W, BASE], LOAD, load!(W, Kept)),
+    row!(b"ldur\0\0\0\0" => [TO_W, AROUND], LOAD, load!(W, Kept); zero 383 at 1),
+    row!(b"ldur\0\0\0\0" => [TO_Q, BASE], LOAD, load!(Q, Kept)),
+    row!(b"ldur\0\0\0\0" => [TO_Q, AROUND], LOAD, load!(Q, Kept); zero 385 at 1),
+    row!(b"ldur\0\0\0\0" => [TO_D, BASE], LOAD, load!(D, Kept)),
+    row!(b"ldur\0\0\0\0" => [TO_D, AROUND], LOAD, load!(D, Kept); zero 387 at 1),
+    row!(b"ldur\0\0\0\0" => [TO_S, BASE], LOAD, load!(S, Kept)),
+    row!(b"ldur\0\0\0\0" => [TO_S, AROUND], LOAD, load!(S, Kept); zero 389 at 1),
+    row!(b"stur\0\0\0\0" => [ANY_X, BASE], STORE, store!(X, Kept)),
+    row!(b"stur\0\0\0\0" => [ANY_X, AROUND], STORE, store!(X, Kept); zero 391 at 1),
+    row!(b"stur\0\0\0\0" => [ANY_W, BASE], STORE, store!(W, Kept)),
+    row!(b"stur\0\0\0\0" => [ANY_W, AROUND], STORE, store!(W, Kept); zero 393 at 1),
+    row!(b"stur\0\0\0\0" => [Q, BASE], STORE, store!(Q, Kept)),
+    row!(b"stur\0\0\0\0" => [Q, AROUND], STORE, store!(Q, Kept); zero 395 at 1),
+    row!(b"stur\0\0\0\0" => [D, BASE], STORE, store!(D, Kept)),
+    row!(b"stur\0\0\0\0" => [D, AROUND], STORE, store!(D, Kept); zero 397 at 1),
+    row!(b"stur\0\0\0\0" => [S, BASE], STORE, store!(S, Kept)),
+    row!(b"stur\0\0\0\0" => [S, AROUND], STORE, store!(S, Kept); zero 399 at 1),
+    // Pairs loaded.
+    row!(b"ldp\0\0\0\0\0" => [TO_X, TO_X, BASE], LOAD, load_pair!(X, Kept)),
+    row!(b"ldp\0\0\0\0\0" => [TO_X, TO_X, AROUND_8], LOAD, load_pair!(X, Kept); zero 401 at 2),
+    row!(b"ldp\0\0\0\0\0" => [TO_X, TO_X, BACK, BY_8], LOAD, load_pair!(X, After)),
+    row!(b"ldp\0\0\0\0\0" => [TO_X, TO_X, BEFORE_8], LOAD, load_pair!(X, Before)),
+    row!(b"ldp\0\0\0\0\0" => [TO_D, TO_D, BASE], LOAD, load_pair!(D, Kept)),
+    row!(b"ldp\0\0\0\0\0" => [TO_D, TO_D, AROUND_8], LOAD, load_pair!(D, Kept); zero 405 at 2),
+    row!(b"ldp\0\0\0\0\0" => [TO_D, TO_D, BACK, BY_8], LOAD, load_pair!(D, After)),
+    row!(b"ldp\0\0\0\0\0" => [TO_D, TO_D, BEFORE_8], LOAD, load_pair!(D, Before)),
+    row!(b"ldp\0\0\0\0\0" => [TO_Q, TO_Q, BASE], LOAD, load_pair!(Q, Kept)),
+    row!(b"ldp\0\0\0\0\0" => [TO_Q, TO_Q, AROUND_16], LOAD, load_pair!(Q, Kept); zero 409 at 2),
+    row!(b"ldp\0\0\0\0\0" => [TO_Q, TO_Q, BACK, BY_16], LOAD, load_pair!(Q, After)),
+    row!(b"ldp\0\0\0\0\0" => [TO_Q, TO_Q, BEFORE_16], LOAD, load_pair!(Q, Before)),
+    // Pairs stored.
+    row!(b"stp\0\0\0\0\0" => [ANY_X, ANY_X, BASE], STORE, store_pair!(X, Kept)),
+    row!(b"stp\0\0\0\0\0" => [ANY_X, ANY_X, AROUND_8], STORE, store_pair!(X, Kept); zero 413 at 2),
+    row!(b"stp\0\0\0\0\0" => [ANY_X, ANY_X, BACK, BY_8], STORE, store_pair!(X, After)),
+    row!(b"stp\0\0\0\0\0" => [ANY_X, ANY_X, BEFORE_8], STORE, store_pair!(X, Before)),
+    row!(b"stp\0\0\0\0\0" => [D, D, BASE], STORE, store_pair!(D, Kept)),
+    row!(b"stp\0\0\0\0\0" => [D, D, AROUND_8], STORE, store_pair!(D, Kept); zero 417 at 2),
+    row!(b"stp\0\0\0\0\0" => [D, D, BACK, BY_8], STORE, store_pair!(D, After)),
+    row!(b"stp\0\0\0\0\0" => [D, D, BEFORE_8], STORE, store_pair!(D, Before)),
+    row!(b"stp\0\0\0\0\0" => [Q, Q, BASE], STORE, store_pair!(Q, Kept)),
+    row!(b"stp\0\0\0\0\0" => [Q, Q, AROUND_16], STORE, store_pair!(Q, Kept); zero 421 at 2),
+    row!(b"stp\0\0\0\0\0" => [Q, Q, BACK, BY_16], STORE, store_pair!(Q, After)),
+    row!(b"stp\0\0\0\0\0" => [Q, Q, BEFORE_16], STORE, store_pair!(Q, Before)),
+];
+
 // The rows of scalar forms.
 fn scalar() -> &'static [Row]
     ensures { result.now ≡ scalar_rows }
@@ -737,16 +909,24 @@ fn orders() -> &'static [Row]
     &LANE_ROWS
 }
 
+// The rows of accesses to memory.
+fn accesses() -> &'static [Row]
+    ensures { result.now ≡ memory_rows }
+{
+    &MEMORY_ROWS
+}
+
 /// The table of the forms.
 #[tactic(auto, unfolding(crate::specs::Document::document))]
 pub(crate) fn table() -> Table<'static>
     ensures rows { rows_of result ≡ document }
-    ensures count { length (rows_of result) ≡ 341 }
+    ensures count { length (rows_of result) ≡ 425 }
 {
     Table {
         first: scalar(),
         second: sums(),
         third: orders(),
+        fourth: accesses(),
     }
 }
 

@@ -1,16 +1,20 @@
 -- The lines of a printed region: what they say ends no line, and each spells its item.
-use Rattle.std.proofs.Common.{◌≡◌, ℕ, zero, suc, ◌+◌, ◌/◌, ◌%◌, ◌<◌, true, false, not, eqb, List, [], ◌∷◌, ◌++◌, length, codes, if◌then◌else◌, refl, ap, ◌∙◌, arith, lt-ltb}
+use Rattle.std.proofs.Common.{◌≡◌, ℕ, zero, suc, ◌+◌, ◌/◌, ◌%◌, ◌<◌, Bool, true, false, not, nat_lt, slice_get, Option, None, Some, eqb, List, [], ◌∷◌, ◌++◌, length, codes, if◌then◌else◌, map, refl, sym, ap, ◌∙◌, subst, arith, lt-ltb}
 use Rattle.std.specs.Fmt.{decimal, digits, digits_onto, digit_glyph}
 use Rattle.std.specs.List.{list_all, AllByRecursion}
-use Rattle.std.proofs.lemmas.Bool.{ne_eqb, and_from}
+use Rattle.std.proofs.lemmas.Bool.{ne_eqb, and_from, and_parts}
 use Rattle.std.proofs.lemmas.List.Folds.{list_all-append}
 use Rattle.sl_model.specs.declared.instruction.Instr.{Instr}
-use Rattle.sl_model.specs.declared.schedule.Choice.{Choice}
 use Rattle.sl_model.specs.declared.text.Comments.{Comments}
-use Rattle.sl_isa.specs.Language.{Language, IsLanguage}
+use Rattle.sl_isa.specs.Language.{Language, IsLanguage, IsSpelledAt, is_no_feed, unmarked}
 use Rattle.asm_printer.specs.Lines as reading
-use Rattle.asm_printer.specs.Printed.{head_note, item_note, off_line, entries}
-use Rattle.asm_printer.specs.ReadBack.{AreRead}
+use Rattle.asm_printer.specs.declared.plan.Head.{Head}
+use Rattle.asm_printer.specs.Printed.{head_note, numbered, named, word_if, tag_name, marks_note, item_note, entries}
+use Rattle.asm_reader.specs.Notes.{NoteValue, is_tag, is_unit}
+use Rattle.asm_reader.specs.Regions.{AreRead, is_right_unit}
+use Rattle.std.specs.Char.{is_ascii_alphabetic}
+use Rattle.std.proofs.lemmas.Bool.Decides.{nat_tests}
+use Rattle.sl_model.specs.Token.{is_word_byte}
 
 -- notes end no line
 
@@ -47,40 +51,104 @@ labelled-inside a b c m n k ha hb hc =
     (all-append (decimal n) (c ++ decimal k) (decimal-inside n)
     (all-append c (decimal k) hc (decimal-inside k)))))
 
-pub head-inside : (items cycles stalls : ℕ) → list_all reading.is_inside_line (head_note items cycles stalls) ≡ true
-head-inside items cycles stalls = labelled-inside (codes " v=1 kind=straight n=") (codes " cycles=") (codes " stalls=") items cycles stalls refl refl refl
+pub head-inside : (head : Head) → list_all reading.is_inside_line (head_note head) ≡ true
+head-inside head = labelled-inside (codes " v=1 kind=straight n=") (codes " cycles=") (codes " stalls=") head.items head.cycles head.stalls refl refl refl
+
+-- names end no line
+
+word-inside : (c : ℕ) → is_word_byte c ≡ true → reading.is_inside_line c ≡ true
+word-inside c h = grind (arith, nat_tests)
+
+letter-inside : (c : ℕ) → is_ascii_alphabetic c ≡ true → reading.is_inside_line c ≡ true
+letter-inside c h = grind (arith, nat_tests)
+
+words-inside : (text : List ℕ) → list_all is_word_byte text ≡ true → list_all reading.is_inside_line text ≡ true
+words-inside [] h = refl
+words-inside (c ∷ text) h =
+    let both = and_parts (is_word_byte c) (list_all is_word_byte text) h in
+    and_from (reading.is_inside_line c) (list_all reading.is_inside_line text) (word-inside c both.0) (words-inside text both.1)
+
+both-pass : (a b : Bool) → (if a then b else false) ≡ true → (a ≡ true) × (b ≡ true)
+both-pass true b e = (refl, e)
+both-pass false b e = cc
+
+tag-inside : (text : List ℕ) → is_tag text ≡ true → list_all reading.is_inside_line text ≡ true
+tag-inside [] h = refl
+tag-inside (c ∷ text) h =
+    let both = both-pass (is_word_byte c) (list_all is_word_byte text) h in
+    and_from (reading.is_inside_line c) (list_all reading.is_inside_line text) (word-inside c both.0) (words-inside text both.1)
+
+unit-inside : (text : List ℕ) → is_unit text ≡ true → list_all reading.is_inside_line text ≡ true
+unit-inside [] h = refl
+unit-inside (c ∷ text) h =
+    let first = both-pass (is_ascii_alphabetic c) (if list_all is_word_byte text then nat_lt (length text) 16 else false) h in
+    let rest = both-pass (list_all is_word_byte text) (nat_lt (length text) 16) first.1 in
+    and_from (reading.is_inside_line c) (list_all reading.is_inside_line text) (letter-inside c first.0) (words-inside text rest.0)
+
+-- the parts of a note end no line
+
+numbered-inside : (label : List ℕ) (number : Option ℕ) → list_all reading.is_inside_line label ≡ true → list_all reading.is_inside_line (numbered label number) ≡ true
+numbered-inside label None h = refl
+numbered-inside label (Some n) h = all-append label (decimal n) h (decimal-inside n)
+
+unit-told : (unit : Option (List ℕ)) → is_right_unit unit ≡ true → list_all reading.is_inside_line (named (codes " u=") unit) ≡ true
+unit-told None h = refl
+unit-told (Some text) h = all-append (codes " u=") text refl (unit-inside text h)
+
+tag-told : (tags : List (List ℕ)) (k : ℕ) → list_all is_tag tags ≡ true → list_all reading.is_inside_line (named (codes " mem=") (slice_get tags k)) ≡ true
+tag-told [] k h = refl
+tag-told (tag ∷ tags) zero h = all-append (codes " mem=") tag refl (tag-inside tag (and_parts (is_tag tag) (list_all is_tag tags) h).0)
+tag-told (tag ∷ tags) (suc k) h = tag-told tags k (and_parts (is_tag tag) (list_all is_tag tags) h).1
+
+some-tag-told : (tags : List (List ℕ)) (tag : Option ℕ) → list_all is_tag tags ≡ true → list_all reading.is_inside_line (named (codes " mem=") (tag_name tags tag)) ≡ true
+some-tag-told tags None h = refl
+some-tag-told tags (Some k) h = tag-told tags k h
+
+word-told : (says : Bool) (word : List ℕ) → list_all reading.is_inside_line word ≡ true → list_all reading.is_inside_line (word_if says word) ≡ true
+word-told true word h = h
+word-told false word h = refl
+
+note-inside : (tags : List (List ℕ)) (note : NoteValue) (i : Instr) → list_all is_tag tags ≡ true → is_right_unit note.unit ≡ true → list_all reading.is_inside_line (item_note tags note i) ≡ true
+note-inside tags note i names unit =
+    all-append (numbered (codes "i=") note.item) (named (codes " u=") note.unit ++ (numbered (codes " c=") note.cycle ++ ((codes " line=" ++ decimal note.line) ++ marks_note tags i)))
+    (numbered-inside (codes "i=") note.item refl)
+    (all-append (named (codes " u=") note.unit) (numbered (codes " c=") note.cycle ++ ((codes " line=" ++ decimal note.line) ++ marks_note tags i)) (unit-told note.unit unit)
+    (all-append (numbered (codes " c=") note.cycle) ((codes " line=" ++ decimal note.line) ++ marks_note tags i) (numbered-inside (codes " c=") note.cycle refl)
+    (all-append (codes " line=" ++ decimal note.line) (marks_note tags i) (all-append (codes " line=") (decimal note.line) refl (decimal-inside note.line))
+    (all-append (named (codes " mem=") (tag_name tags i.tag)) (word_if i.early (codes " may_early") ++ word_if i.late (codes " may_late")) (some-tag-told tags i.tag names)
+    (all-append (word_if i.early (codes " may_early")) (word_if i.late (codes " may_late")) (word-told i.early (codes " may_early") refl) (word-told i.late (codes " may_late") refl))))))
 
 -- Each line spells its item, where the items were read.
-pub all-printed : (language : Language) (comments : Comments) (items : List Instr) (schedule : List Choice) (cycles : List ℕ)
-    → IsLanguage language → AreRead language.reads items
-    → AllByRecursion (reading.IsPrinted language.reads comments) (entries language.printed items schedule cycles)
+pub all-printed : (language : Language) (comments : Comments) (tags : List (List ℕ)) (items : List Instr) (notes : List NoteValue)
+    → IsLanguage language → AreRead language.reads items → list_all is_tag tags ≡ true → list_all (λ (note : NoteValue). is_right_unit note.unit) notes ≡ true
+    → AllByRecursion (reading.IsPrinted language.reads comments) (entries language.printed tags items notes)
 unfolding entries
-all-printed language comments [] schedule cycles lawful read = tt
-all-printed language comments (i ∷ items) [] cycles lawful read = tt
-all-printed language comments (i ∷ items) (c ∷ schedule) [] lawful read = tt
-all-printed language comments (i ∷ items) (c ∷ schedule) (cycle ∷ cycles) lawful read = (
-  record {
-    text = lawful.one_line read.0.words (off_line i) read.0.read;
-    note = labelled-inside (codes "i=") (codes " u=u c=") (codes " line=") c.item cycle i.line refl refl refl;
-    spelled =
-        lawful.again read.0.words (off_line i) read.0.read comments 8 (codes " // @slothy:" ++ item_note c.item cycle i.line) refl;
-  },
-  all-printed language comments items schedule cycles lawful read.1,
-)
+all-printed language comments tags [] notes lawful read names units = tt
+all-printed language comments tags (i ∷ items) [] lawful read names units = tt
+all-printed language comments tags (i ∷ items) (note ∷ notes) lawful read names units =
+    let both = and_parts (is_right_unit note.unit) (list_all (λ (other : NoteValue). is_right_unit other.unit) notes) units in (
+      record {
+        text = ap (list_all is_no_feed) (sym (lawful.unmarked_printed i)) ∙ lawful.one_line read.0.words (unmarked i) read.0.read;
+        note = note-inside tags note i names both.0;
+        spelled =
+            subst (λ text. IsSpelledAt language.reads comments text 8 (codes " // @slothy:" ++ item_note tags note i) (unmarked i)) (lawful.unmarked_printed i)
+            (lawful.again read.0.words (unmarked i) read.0.read comments 8 (codes " // @slothy:" ++ item_note tags note i) refl);
+      },
+      all-printed language comments tags items notes lawful read.1 names both.1,
+    )
 
 -- there is a line for each item, on which it is read
 
-pub length-entries : (printed : Instr → List ℕ) (items : List Instr) (schedule : List Choice) (cycles : List ℕ) → length schedule ≡ length items → length cycles ≡ length items → length (entries printed items schedule cycles) ≡ length items
+pub length-entries : (printed : Instr → List ℕ) (tags : List (List ℕ)) (items : List Instr) (notes : List NoteValue) → length notes ≡ length items → length (entries printed tags items notes) ≡ length items
 unfolding entries
-length-entries printed [] schedule cycles s c = refl
-length-entries printed (i ∷ items) [] cycles s c = absurd (omega arith)
-length-entries printed (i ∷ items) (choice ∷ schedule) [] s c = absurd (omega arith)
-length-entries printed (i ∷ items) (choice ∷ schedule) (cycle ∷ cycles) s c = ap suc (length-entries printed items schedule cycles (omega arith) (omega arith))
+length-entries printed tags [] notes n = refl
+length-entries printed tags (i ∷ items) [] n = absurd (omega arith)
+length-entries printed tags (i ∷ items) (note ∷ notes) n = ap suc (length-entries printed tags items notes (omega arith))
 
-pub entries-on_lines : (n : ℕ) (printed : Instr → List ℕ) (items : List Instr) (schedule : List Choice) (cycles : List ℕ) → length schedule ≡ length items → length cycles ≡ length items → reading.on_lines n (reading.printed_items (entries printed items schedule cycles)) ≡ reading.on_lines n items
+pub entries-on_lines : (n : ℕ) (printed : Instr → List ℕ) (tags : List (List ℕ)) (items : List Instr) (notes : List NoteValue) → length notes ≡ length items
+    → reading.on_lines n (reading.printed_items (entries printed tags items notes)) ≡ reading.on_lines n (map unmarked items)
 unfolding entries reading.on_lines
-entries-on_lines n printed [] schedule cycles s c = refl
-entries-on_lines n printed (i ∷ items) [] cycles s c = absurd (omega arith)
-entries-on_lines n printed (i ∷ items) (choice ∷ schedule) [] s c = absurd (omega arith)
-entries-on_lines n printed (i ∷ items) (choice ∷ schedule) (cycle ∷ cycles) s c =
-    ap (λ more. record i { line = n } ∷ more) (entries-on_lines (n + 1) printed items schedule cycles (omega arith) (omega arith))
+entries-on_lines n printed tags [] notes e = refl
+entries-on_lines n printed tags (i ∷ items) [] e = absurd (omega arith)
+entries-on_lines n printed tags (i ∷ items) (note ∷ notes) e =
+    ap (λ more. record (unmarked i) { line = n } ∷ more) (entries-on_lines (n + 1) printed tags items notes (omega arith))

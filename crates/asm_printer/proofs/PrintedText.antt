@@ -1,16 +1,11 @@
 -- The written file from its parts, and the end of its lines.
-use Rattle.std.proofs.Common.{◌≡◌, ℕ, true, false, ◌&&◌, cond, eqb, List, [], ◌∷◌, ◌++◌, length, reverse, Result, Ok, Err, refl, sym, ap, ap₂, ◌∙◌, ⊎_elim, append_assoc}
+use Rattle.std.proofs.Common.{◌≡◌, ℕ, true, false, ◌&&◌, cond, eqb, List, [], ◌∷◌, ◌++◌, reverse, Result, Ok, Err, refl, sym, ap, ◌∙◌, ⊎_elim, append_assoc}
 use Rattle.std.proofs.lemmas.Bool.{cases_Bool, eqb-true}
 use Rattle.std.proofs.lemmas.List.{reverse-append, reverse-reverse}
 use Rattle.std.specs.Result.{OnOk}
 use Rattle.sl_model.specs.declared.instruction.Instr.{Instr}
-use Rattle.sl_model.specs.declared.schedule.Choice.{Choice}
-use Rattle.sl_model.specs.Text.{Parts}
-use Rattle.sl_model.specs.Cycles.{Issued, timed, cycle_count, cycles_of}
-use Rattle.sl_model.specs.Body.{applied}
-use Rattle.sl_model.specs.Legal.{Problem, body_of, sources_in}
-use Rattle.sl_model.specs.Space.{stalls_of}
-use Rattle.asm_printer.specs.Printed.{ends_by_both, line_end, head_note, entries, region_text, written_text}
+use Rattle.asm_reader.specs.Reading.{Region}
+use Rattle.asm_printer.specs.Printed.{PlanValue, ends_by_both, line_end, head_note, entries, region_text, written_text}
 use Rattle.asm_printer.specs.Lines.{head_line, item_lines}
 use Rattle.std.specs.Prelude.{MatchResult}
 
@@ -34,25 +29,20 @@ other_line_end text other =
     ap (λ b. cond b (13 ∷ 10 ∷ []) (10 ∷ [])) (other_end (reverse text) (λ front e. other front (sym (reverse-reverse text) ∙ e)))
 
 -- the written file, whose parts were written one behind the other
-pub text-whole : (printed : Instr → List ℕ) (parts : Parts) (problem : Problem) (schedule : List Choice) (items : List Instr) (cycles : List ℕ) (count stalled : ℕ) (end first head lines whole : List ℕ)
-    → end ≡ line_end parts.before → first ≡ parts.before → head ≡ first ++ head_line (head_note (length schedule) count stalled) end
-    → lines ≡ head ++ item_lines end (entries printed items schedule cycles) → whole ≡ lines ++ parts.after
-    → items ≡ applied (body_of problem) schedule → cycles ≡ cycles_of (timed problem.costs (sources_in problem) schedule)
-    → count ≡ cycle_count (timed problem.costs (sources_in problem) schedule) → stalled ≡ stalls_of problem schedule
-    → whole ≡ written_text printed parts problem schedule
+pub text-whole : (printed : Instr → List ℕ) (region : Region) (items : List Instr) (plan : PlanValue) (end first head lines whole : List ℕ)
+    → end ≡ line_end region.parts.before → first ≡ region.parts.before → head ≡ first ++ head_line (head_note plan.head) end
+    → lines ≡ head ++ item_lines end (entries printed region.tags items plan.notes) → whole ≡ lines ++ region.parts.after
+    → whole ≡ written_text printed region items plan
 unfolding region_text
-text-whole printed parts problem schedule items cycles count stalled end first head lines whole ends begins heads are closes applied_is cycles_are counts stalls =
-    let times : List Issued = timed problem.costs (sources_in problem) schedule in
-    let top : List ℕ = head_line (head_note (length schedule) count stalled) end in
-    let item_text : List ℕ = item_lines end (entries printed items schedule cycles) in
+text-whole printed region items plan end first head lines whole ends begins heads are closes =
+    let before : List ℕ = region.parts.before in
+    let top : List ℕ = head_line (head_note plan.head) end in
+    let item_text : List ℕ = item_lines end (entries printed region.tags items plan.notes) in
     closes
-    ∙ ap (λ v. v ++ parts.after) (are ∙ ap (λ v. v ++ item_text) (heads ∙ ap (λ v. v ++ top) begins))
-    ∙ ap (λ v. v ++ parts.after) (append_assoc parts.before top item_text)
-    ∙ append_assoc parts.before (top ++ item_text) parts.after
-    ∙ ap (λ v. parts.before ++ ((head_line (head_note (length schedule) count stalled) v ++ item_lines v (entries printed items schedule cycles)) ++ parts.after)) ends
-    ∙ ap (λ v. parts.before ++ ((head_line (head_note (length schedule) count stalled) (line_end parts.before) ++ item_lines (line_end parts.before) (entries printed v schedule cycles)) ++ parts.after)) applied_is
-    ∙ ap (λ v. parts.before ++ ((head_line (head_note (length schedule) count stalled) (line_end parts.before) ++ item_lines (line_end parts.before) (entries printed (applied (body_of problem) schedule) schedule v)) ++ parts.after)) cycles_are
-    ∙ ap₂ (λ n m. parts.before ++ ((head_line (head_note (length schedule) n m) (line_end parts.before) ++ item_lines (line_end parts.before) (entries printed (applied (body_of problem) schedule) schedule (cycles_of times))) ++ parts.after)) counts stalls
+    ∙ ap (λ v. v ++ region.parts.after) (are ∙ ap (λ v. v ++ item_text) (heads ∙ ap (λ v. v ++ top) begins))
+    ∙ ap (λ v. v ++ region.parts.after) (append_assoc before top item_text)
+    ∙ append_assoc before (top ++ item_text) region.parts.after
+    ∙ ap (λ v. before ++ ((head_line (head_note plan.head) v ++ item_lines v (entries printed region.tags items plan.notes)) ++ region.parts.after)) ends
 
 -- what holds of an Ok, said otherwise
 pub ok-map : {T E : Type 0} {P Q : Type 0} (r : Result T E) → (P → Q) → OnOk r P → OnOk r Q

@@ -1,18 +1,22 @@
 -- A printed region, line by line.
-use Rattle.std.proofs.Common.{◌≡◌, ℕ, ◌+◌, ◌<◌, ◌≤◌, Bool, true, false, cond, not, ◌&&◌, eqb, List, [], ◌∷◌, ◌++◌, length, codes, Ok, inl, inr, refl, ap, sym, ◌∙◌, subst, arith, append_assoc, append-nil, length-append, lt-ltb}
+use Rattle.std.proofs.Common.{◌≡◌, ℕ, ◌+◌, ◌<◌, ◌≤◌, Bool, true, false, cond, not, ◌&&◌, eqb, List, [], ◌∷◌, ◌++◌, length, map, codes, None, Some, Ok, inl, inr, refl, ap, sym, ◌∙◌, subst, arith, append_assoc, append-nil, length-append, lt-ltb}
 use Rattle.std.specs.List.{list_all, AllByRecursion}
 use Rattle.std.proofs.lemmas.List.Folds.{list_all-append}
 use Rattle.sl_model.specs.declared.instruction.Instr.{Instr}
 use Rattle.sl_model.specs.declared.text.Comments.{Comments}
 use Rattle.sl_model.specs.Text.{whole_lines, without_end, is_line_end, prepend}
 use Rattle.sl_model.specs.Token.{Lexeme, tokens, open_behind}
+use Rattle.sl_model.specs.Exec.{has_access}
+use Rattle.sl_model.specs.Isa.{Isa}
+use Rattle.sl_model.specs.ResultSteps.{◌>>=◌}
+use Rattle.sl_isa.specs.Arch.{comments_of}
+use Rattle.sl_isa.specs.Language.{Language, Reads, is_no_feed}
 use Rattle.asm_reader.specs.declared.reasons.Reason.TheVariants as reason
 use Rattle.asm_reader.specs.declared.reasons.Wants.{Wants}
-use Rattle.asm_reader.specs.Statements.{statements, words_of, has_note}
-use Rattle.sl_isa.specs.Language.{Reads, is_no_feed}
-use Rattle.asm_reader.specs.Reading.{refused, writes_again, with_item, read_or_refused, with_words, with_statement, with_statements, with_lines, region_alone}
+use Rattle.asm_reader.specs.Statements.{Statement, words_of, note_text, on_line, outside, statements_of}
+use Rattle.asm_reader.specs.Reading.{Draft, refused, no_draft, writes_again, longer, with_item, instr_or, instr_of, said_by, said_of, with_said, with_statement, with_statements, region_alone}
 use Rattle.asm_printer.specs.Lines.{Printed, IsPrinted, IsLineEnd, item_line, item_lines, region_lines, printed_items, on_lines, is_inside_line}
-use Rattle.asm_reader.proofs.ForCallers.{no_statements, statement_read, no_items, line_read}
+use Rattle.asm_reader.proofs.ForCallers.{no_statements, statement_read, parts_read, no_lines_read, line_read}
 use Rattle.asm_printer.proofs.LineTokens.{line_comment, IsLine, line_statements, line_words, line_closed, item_tokens, head_tokens}
 use Rattle.std.proofs.lemmas.Bool.{and_parts, not-true}
 
@@ -108,71 +112,100 @@ body_whole reads comments printed end is ends = whole_line (codes "        " ++ 
 
 -- ---- what each line adds
 
-module _ (reads : Reads) (comments : Comments) (wants : Wants) (some : (i : Instr) → reads [] ≡ Ok i → ⊥) (no_notes : wants.no_notes ≡ false) (once : wants.once ≡ false) where
-  -- where notes are passed over, the words of a statement are all of it
-  statement_words : (line : ℕ) (items : List Instr) (statement words : List Lexeme) → words_of statement ≡ words
-      → with_statement reads wants line items statement ≡ with_words reads wants line items words
-  statement_words line items statement words e =
-      ap (λ b. cond (b && has_note statement) (refused line reason.NotYet) (with_words reads wants line items (words_of statement))) no_notes
-      ∙ ap (with_words reads wants line items) e
+-- a draft with printed instructions, on lines that are numbered from a first one
+pub drafted : Isa → ℕ → Draft → List Printed → Draft
+drafted isa number draft [] = draft
+drafted isa number draft (first ∷ more) = drafted isa (number + 1) (longer (has_access (isa.info first.item.form)) number draft first.item) more
+
+-- its items
+pub drafted_items : (isa : Isa) (number : ℕ) (draft : Draft) (printed : List Printed) → (drafted isa number draft printed).items ≡ draft.items ++ on_lines number (printed_items printed)
+unfolding drafted on_lines
+drafted_items isa number draft [] = sym (append-nil draft.items)
+drafted_items isa number draft (first ∷ more) =
+    let i = record first.item { line = number } in
+    drafted_items isa (number + 1) (longer (has_access (isa.info first.item.form)) number draft first.item) more
+    ∙ append_assoc draft.items (i ∷ []) (on_lines (number + 1) (printed_items more))
+
+module _ (language : Language) (wants : Wants) (some : (i : Instr) → language.reads [] ≡ Ok i → ⊥) (quiet : wants.notes ≡ false) (once : wants.once ≡ false) where
+  abbrev pub comments : Comments
+  comments = comments_of language.isa.name
+
+  -- where notes are passed over, none says anything
+  nothing_said : (statement : Statement) → said_of wants statement ≡ Ok None
+  nothing_said statement = ap (λ b. cond b (said_by statement.line (note_text statement.tokens)) (Ok None)) quiet
 
   -- an instruction for which there is room
-  item_added : (line : ℕ) (items : List Instr) (i : Instr) → length items < wants.limit → with_item wants line items i ≡ Ok (items ++ record i { line = line } ∷ [])
-  item_added line items i room =
-      ap (λ b. cond (not b) (refused line (reason.TooMany wants.limit)) (cond (wants.once && writes_again items i) (refused line reason.NotYet) (Ok (items ++ record i { line = line } ∷ []))))
-      (lt-ltb (length items) wants.limit room)
-      ∙ ap (λ b. cond (b && writes_again items i) (refused line reason.NotYet) (Ok (items ++ record i { line = line } ∷ []))) once
+  item_added : (accesses : Bool) (line : ℕ) (draft : Draft) (i : Instr) → length draft.items < wants.limit → with_item wants accesses line draft i ≡ Ok (longer accesses line draft i)
+  item_added accesses line draft i room =
+      ap (λ b. cond (not b) (refused line (reason.TooMany wants.limit)) (cond (wants.once && writes_again draft.items i) (refused line reason.NotYet) (Ok (longer accesses line draft i))))
+      (lt-ltb (length draft.items) wants.limit room)
+      ∙ ap (λ b. cond (b && writes_again draft.items i) (refused line reason.NotYet) (Ok (longer accesses line draft i))) once
 
-  words_added : (line : ℕ) (items : List Instr) (words : List Lexeme) (i : Instr) → reads words ≡ Ok i → length items < wants.limit
-      → with_words reads wants line items words ≡ Ok (items ++ record i { line = line } ∷ [])
-  words_added line items [] i read room = absurd (some i read)
-  words_added line items (first ∷ words) i read room = ap (read_or_refused wants line items (first ∷ words)) read ∙ item_added line items i room
+  words_read : (line : ℕ) (words : List Lexeme) (i : Instr) → language.reads words ≡ Ok i → instr_of language.reads line words ≡ Ok (Some i)
+  words_read line [] i read = absurd (some i read)
+  words_read line (first ∷ words) i read = ap (instr_or line (first ∷ words)) read
+
+  -- a statement of an instruction
+  statement_added : (line : ℕ) (draft : Draft) (tokens words : List Lexeme) (i : Instr) → words_of tokens ≡ words → language.reads words ≡ Ok i → length draft.items < wants.limit
+      → with_statement language wants draft (record { line = line; tokens = tokens }) ≡ Ok (longer (has_access (language.isa.info i.form)) line draft i)
+  statement_added line draft tokens words i are read room =
+      let accesses = has_access (language.isa.info i.form) in
+      parts_read language wants draft (record { line = line; tokens = tokens }) (Some i) None
+      (ap (instr_of language.reads line) are ∙ words_read line words i read) (nothing_said (record { line = line; tokens = tokens }))
+      ∙ ap (λ r. r >>= λ more. Ok (with_said more None)) (item_added accesses line draft i room)
+
+  -- and one without words
+  empty_added : (line : ℕ) (draft : Draft) (tokens : List Lexeme) → words_of tokens ≡ [] → with_statement language wants draft (record { line = line; tokens = tokens }) ≡ Ok draft
+  empty_added line draft tokens are =
+      parts_read language wants draft (record { line = line; tokens = tokens }) None None (ap (instr_of language.reads line) are) (nothing_said (record { line = line; tokens = tokens }))
 
   -- a line of words and a comment
-  line_added : (number : ℕ) (items longer : List Instr) (line end : List ℕ) (lines : List (List ℕ)) (words : List Lexeme) → IsWhole line end → IsLine comments line words
-      → with_words reads wants number items words ≡ Ok longer
-      → with_lines reads comments wants false number items ((line ++ end) ∷ lines) ≡ with_lines reads comments wants false (number + 1) longer lines
-  line_added number items longer line end lines words whole is added =
-      let statement = words ++ line_comment is.place is.rest ∷ [] in
-      let here : with_statement reads wants number items statement ≡ Ok longer = statement_words number items statement words (line_words comments line words is) ∙ added in
-      let all : with_statements reads wants number items (statements (tokens comments false (without_end (line ++ end)))) ≡ Ok longer =
-      ap (λ text. with_statements reads wants number items (statements (tokens comments false text))) whole.before
-      ∙ ap (with_statements reads wants number items) (line_statements comments line words is)
-      ∙ statement_read reads wants number items longer statement [] here
-      ∙ no_statements reads wants number longer in
-      line_read reads comments wants false number items longer (line ++ end) lines all
-      ∙ ap (λ text. with_lines reads comments wants (open_behind false (tokens comments false text)) (number + 1) longer lines) whole.before
-      ∙ ap (λ b. with_lines reads comments wants b (number + 1) longer lines) (line_closed comments line words is)
+  line_added : (number : ℕ) (draft more : Draft) (line end : List ℕ) (lines : List (List ℕ)) (words : List Lexeme) → IsWhole line end → (is : IsLine comments line words)
+      → with_statement language wants draft (record { line = number; tokens = words ++ line_comment is.place is.rest ∷ [] }) ≡ Ok more
+      → with_statements language wants draft (statements_of comments false number ((line ++ end) ∷ lines)) ≡ with_statements language wants more (statements_of comments false (number + 1) lines)
+  line_added number draft more line end lines words whole is added =
+      let statement : Statement = record { line = number; tokens = words ++ line_comment is.place is.rest ∷ [] } in
+      let all : with_statements language wants draft (on_line number (outside false (tokens comments false (without_end (line ++ end))))) ≡ Ok more =
+      ap (λ text. with_statements language wants draft (on_line number (tokens comments false text))) whole.before
+      ∙ ap (λ each. with_statements language wants draft (map (λ each. record { line = number; tokens = each }) each)) (line_statements comments line words is)
+      ∙ statement_read language wants draft more statement [] added
+      ∙ no_statements language wants more in
+      line_read language wants comments false number draft more (line ++ end) lines all
+      ∙ ap (λ text. with_statements language wants more (statements_of comments (open_behind false (tokens comments false text)) (number + 1) lines)) whole.before
+      ∙ ap (λ b. with_statements language wants more (statements_of comments b (number + 1) lines)) (line_closed comments line words is)
 
   -- the lines of instructions
-  items_added : (end : List ℕ) (number : ℕ) (items : List Instr) (printed : List Printed) → IsLineEnd end → AllByRecursion (IsPrinted reads comments) printed
-      → length items + length printed ≤ wants.limit
-      → with_lines reads comments wants false number items (whole_lines (item_lines end printed)) ≡ Ok (items ++ on_lines number (printed_items printed))
-  unfolding item_lines on_lines whole_lines
-  items_added end number items [] ends are room = no_items reads comments wants false number items ∙ ap Ok (sym (append-nil items))
-  items_added end number items (first ∷ more) ends are room =
+  items_added : (end : List ℕ) (number : ℕ) (draft : Draft) (printed : List Printed) → IsLineEnd end → AllByRecursion (IsPrinted language.reads comments) printed
+      → length draft.items + length printed ≤ wants.limit
+      → with_statements language wants draft (statements_of comments false number (whole_lines (item_lines end printed))) ≡ Ok (drafted language.isa number draft printed)
+  unfolding item_lines drafted whole_lines
+  items_added end number draft [] ends are room = no_lines_read language wants comments false number draft
+  items_added end number draft (first ∷ more) ends are room =
       let i = record first.item { line = number } in
-      let whole = body_whole reads comments first end are.0 ends in
+      let next = longer (has_access (language.isa.info first.item.form)) number draft first.item in
+      let whole = body_whole language.reads comments first end are.0 ends in
       let spelled = are.0.spelled in
       let lines = whole_lines (item_lines end more) in
-      let fits : length items < wants.limit = omega arith in
-      let fit : length (items ++ i ∷ []) + length more ≤ wants.limit = omega (arith, length-append items (i ∷ [])) in
-      ap (λ text. with_lines reads comments wants false number items (whole_lines (text ++ item_lines end more))) (line_text first end)
-      ∙ ap (with_lines reads comments wants false number items) (whole.first (item_lines end more))
-      ∙ line_added number items (items ++ i ∷ []) (body_of first) end lines spelled.words whole
-      (item_tokens reads comments first.text first.note first.item spelled) (words_added number items spelled.words first.item spelled.read fits)
-      ∙ items_added end (number + 1) (items ++ i ∷ []) more ends are.1 fit
-      ∙ ap Ok (append_assoc items (i ∷ []) (on_lines (number + 1) (printed_items more)))
+      let is = item_tokens language.reads comments first.text first.note first.item spelled in
+      let fits : length draft.items < wants.limit = omega arith in
+      let fit : length (draft.items ++ i ∷ []) + length more ≤ wants.limit = omega (arith, length-append draft.items (i ∷ [])) in
+      ap (λ text. with_statements language wants draft (statements_of comments false number (whole_lines (text ++ item_lines end more)))) (line_text first end)
+      ∙ ap (λ ls. with_statements language wants draft (statements_of comments false number ls)) (whole.first (item_lines end more))
+      ∙ line_added number draft next (body_of first) end lines spelled.words whole is
+      (statement_added number draft (spelled.words ++ line_comment is.place is.rest ∷ []) spelled.words first.item (line_words comments (body_of first) spelled.words is) spelled.read fits)
+      ∙ items_added end (number + 1) next more ends are.1 fit
     where
       line_text : (printed : Printed) (end : List ℕ) → item_line end printed ≡ body_of printed ++ end
       line_text printed end = ap (λ v. codes "        " ++ v) (sym (append_assoc printed.text (codes " // @slothy:" ++ printed.note) end))
 
   -- the whole region
-  pub region_added : (note end : List ℕ) (printed : List Printed) → list_all is_inside_line note ≡ true → IsLineEnd end → AllByRecursion (IsPrinted reads comments) printed
-      → length printed ≤ wants.limit → region_alone reads comments wants (region_lines note end printed) ≡ Ok (on_lines 2 (printed_items printed))
+  pub region_added : (note end : List ℕ) (printed : List Printed) → list_all is_inside_line note ≡ true → IsLineEnd end → AllByRecursion (IsPrinted language.reads comments) printed
+      → length printed ≤ wants.limit → region_alone language wants (region_lines note end printed) ≡ Ok (drafted language.isa 2 no_draft printed)
   region_added note end printed inside ends are room =
       let whole = head_whole note end inside ends in
+      let is = head_tokens comments note in
       let fit : 0 + length printed ≤ wants.limit = omega arith in
-      ap (with_lines reads comments wants false 1 []) (whole.first (item_lines end printed))
-      ∙ line_added 1 [] [] (head_of note) end (whole_lines (item_lines end printed)) [] whole (head_tokens comments note) refl
-      ∙ items_added end 2 [] printed ends are fit
+      ap (λ ls. with_statements language wants no_draft (statements_of comments false 1 ls)) (whole.first (item_lines end printed))
+      ∙ line_added 1 no_draft no_draft (head_of note) end (whole_lines (item_lines end printed)) [] whole is
+      (empty_added 1 no_draft (line_comment is.place is.rest ∷ []) (line_words comments (head_of note) [] is))
+      ∙ items_added end 2 no_draft printed ends are fit

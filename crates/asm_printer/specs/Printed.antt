@@ -1,14 +1,17 @@
--- The written file of `opt`.
-use Rattle.std.specs.Prelude.{ℕ, Bool, false, ◌==◌, ◌&&◌, List, [], ◌∷◌, ◌++◌, length, reverse, codes, if◌then◌else◌}
+-- The written file: a region in which other instructions stand.
+use Rattle.std.specs.Prelude.{ℕ, Bool, true, false, ◌==◌, ◌&&◌, List, [], ◌∷◌, ◌++◌, reverse, slice_get, codes, Option, None, Some, option_and_then, if◌then◌else◌}
 use Rattle.std.specs.Fmt.{decimal}
 use Rattle.sl_model.specs.declared.instruction.Instr.{Instr}
-use Rattle.sl_model.specs.declared.schedule.Choice.{Choice}
-use Rattle.sl_model.specs.Text.{Parts}
-use Rattle.sl_model.specs.Cycles.{timed, cycle_count, cycles_of}
-use Rattle.sl_model.specs.Body.{applied}
-use Rattle.sl_model.specs.Legal.{Problem, body_of, sources_in}
-use Rattle.sl_model.specs.Space.{stalls_of}
+use Rattle.sl_isa.specs.Language.{unmarked}
+use Rattle.asm_reader.specs.Notes.{NoteValue}
+use Rattle.asm_reader.specs.Reading.{Region}
+use Rattle.asm_printer.specs.declared.plan.Head.{Head}
 use Rattle.asm_printer.specs.Lines.{Printed, region_lines}
+
+-- What a region says of itself: its first line, and the note of each instruction.
+pub record PlanValue : Type 0 where
+  pub head : Head
+  pub notes : List NoteValue
 
 -- Do the last two bytes of a text, which is given backwards, end a line by a
 -- carriage return and a line feed?
@@ -22,43 +25,68 @@ abbrev pub line_end : List ℕ → List ℕ
 line_end before = if ends_by_both (reverse before) then codes "\r\n" else codes "\n"
 
 -- what the first line of the region says: how many items there are, the cycles and the stalls
-abbrev pub head_note : ℕ → ℕ → ℕ → List ℕ
-head_note items cycles stalls =
-    codes " v=1 kind=straight n=" ++ (decimal items
-    ++ (codes " cycles=" ++ (decimal cycles
-    ++ (codes " stalls=" ++ decimal stalls))))
+abbrev pub head_note : Head → List ℕ
+head_note head =
+    codes " v=1 kind=straight n=" ++ (decimal head.items
+    ++ (codes " cycles=" ++ (decimal head.cycles
+    ++ (codes " stalls=" ++ decimal head.stalls))))
 
--- what is said of an item: its old number, its unit, its cycle and its old line
-abbrev pub item_note : ℕ → ℕ → ℕ → List ℕ
-item_note number cycle line =
-    codes "i=" ++ (decimal number
-    ++ (codes " u=u c=" ++ (decimal cycle ++ (codes " line=" ++ decimal line))))
+-- a label and a number, where there is one
+abbrev pub numbered : List ℕ → Option ℕ → List ℕ
+numbered label None = []
+numbered label (Some n) = label ++ decimal n
 
--- an instruction as it is read, on no line
-abbrev pub off_line : Instr → Instr
-off_line i = record i { line = 0 }
+-- a label and a name, where there is one
+abbrev pub named : List ℕ → Option (List ℕ) → List ℕ
+named label None = []
+named label (Some name) = label ++ name
 
--- the line of an item with its old number and its cycle
-abbrev pub entry : (Instr → List ℕ) → Instr → ℕ → ℕ → Printed
-entry printed i number cycle =
-    record { text = printed (off_line i); note = item_note number cycle i.line; item = off_line i }
+-- a word, where it is to be said
+abbrev pub word_if : Bool → List ℕ → List ℕ
+word_if true word = word
+word_if false word = []
 
--- the lines of items, with the choices that they come from and their cycles
-unfoldable pub entries : (Instr → List ℕ) → List Instr → List Choice → List ℕ → List Printed
-entries printed [] choices cycles = []
-entries printed (i ∷ items) [] cycles = []
-entries printed (i ∷ items) (c ∷ choices) [] = []
-entries printed (i ∷ items) (c ∷ choices) (cycle ∷ cycles) =
-    entry printed i c.item cycle ∷ entries printed items choices cycles
+-- the name of a tag
+abbrev pub tag_name : List (List ℕ) → Option ℕ → Option (List ℕ)
+tag_name tags tag = option_and_then (slice_get tags) tag
 
--- the printed region of a schedule of a problem
-unfoldable pub region_text : (Instr → List ℕ) → Problem → List Choice → List ℕ → List ℕ
-region_text printed problem schedule end =
-    let times = timed problem.costs (sources_in problem) schedule in
-    region_lines (head_note (length schedule) (cycle_count times) (stalls_of problem schedule)) end
-    (entries printed (applied (body_of problem) schedule) schedule (cycles_of times))
+-- the tag and the marks of an instruction
+abbrev pub marks_note : List (List ℕ) → Instr → List ℕ
+marks_note tags i =
+    named (codes " mem=") (tag_name tags i.tag)
+    ++ (word_if i.early (codes " may_early") ++ word_if i.late (codes " may_late"))
+
+-- what is said of an instruction: its old index, its unit, its cycle and its old line, and what the
+-- old one said of it
+abbrev pub item_note : List (List ℕ) → NoteValue → Instr → List ℕ
+item_note tags note i =
+    numbered (codes "i=") note.item
+    ++ (named (codes " u=") note.unit
+    ++ (numbered (codes " c=") note.cycle
+    ++ ((codes " line=" ++ decimal note.line) ++ marks_note tags i)))
+
+-- the line of an instruction with its note
+abbrev pub entry : (Instr → List ℕ) → List (List ℕ) → Instr → NoteValue → Printed
+entry printed tags i note =
+    record { text = printed i; note = item_note tags note i; item = unmarked i }
+
+-- the lines of instructions with their notes
+unfoldable pub entries : (Instr → List ℕ) → List (List ℕ) → List Instr → List NoteValue
+    → List Printed
+entries printed tags [] notes = []
+entries printed tags (i ∷ items) [] = []
+entries printed tags (i ∷ items) (note ∷ notes) =
+    entry printed tags i note ∷ entries printed tags items notes
+
+-- a printed region, with the names of its tags
+unfoldable pub region_text : (Instr → List ℕ) → List (List ℕ) → List Instr → PlanValue → List ℕ
+    → List ℕ
+region_text printed tags items plan end =
+    region_lines (head_note plan.head) end (entries printed tags items plan.notes)
 
 -- the written file: what stands before the region, the printed region, and what stands behind it
-abbrev pub written_text : (Instr → List ℕ) → Parts → Problem → List Choice → List ℕ
-written_text printed parts problem schedule =
-    parts.before ++ (region_text printed problem schedule (line_end parts.before) ++ parts.after)
+abbrev pub written_text : (Instr → List ℕ) → Region → List Instr → PlanValue → List ℕ
+written_text printed region items plan =
+    region.parts.before
+    ++ (region_text printed region.tags items plan (line_end region.parts.before)
+    ++ region.parts.after)

@@ -1,6 +1,9 @@
-//! Printing a schedule of a region as the lines of a file, and what the printed region reads as.
+//! Printing instructions and a plan as the lines of a file, and what the printed region reads as.
 #![tactic(auto)]
 
-pub use print::written_text;
-
+mod note;
+pub mod plan;
 mod print;
+
+pub use plan::{Head, Plan};
+pub use print::written_text;

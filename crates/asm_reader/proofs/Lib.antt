@@ -1,6 +1,10 @@
 pub mod Tokens
+pub mod Standing
+pub mod Unclosed
+pub mod LastOnes
+pub mod Ascii
+pub mod Mapped
 pub mod Steps
-pub mod Lines
+pub mod Pushed
 pub mod Kept
-pub mod Words
 pub mod ForCallers

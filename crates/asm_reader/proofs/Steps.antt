@@ -1,37 +1,73 @@
--- The steps by which items are read.
-use Rattle.std.proofs.Common.{◌≡◌, ℕ, ◌+◌, ◌<◌, List, [], ◌∷◌, length, Option, None, Some, Result, ap, arith, Bor}
+-- The steps by which statements and lines are read.
+use Rattle.std.proofs.Common.{◌≡◌, ℕ, ◌+◌, ◌<◌, Bool, List, map, [], ◌∷◌, ◌++◌, length, Option, None, Some, Result, Ok, Err, refl, ap, sym, ◌∙◌, subst, arith, Bor}
 use Rattle.std.specs.Prelude.{MatchOption}
 use Rattle.sl_model.specs.declared.instruction.Instr.{Instr}
-use Rattle.sl_model.specs.Token.{Lexeme}
+use Rattle.sl_model.specs.declared.text.Comments.{Comments}
+use Rattle.sl_model.specs.Answers.{Refuses}
+use Rattle.sl_model.specs.ResultSteps.{◌>>=◌}
+use Rattle.sl_model.specs.Text.{without_end}
+use Rattle.sl_model.specs.Token.{Lexeme, tokens, open_behind}
 use Rattle.sl_text.specs.declared.token.Token.{Token}
+use Rattle.sl_isa.specs.Language.{Language}
 use Rattle.asm_reader.specs.declared.reasons.Refusal.{Refusal}
 use Rattle.asm_reader.specs.declared.reasons.ReadRefusal.{ReadRefusal}
 use Rattle.asm_reader.specs.declared.reasons.ReadRefusal.TheVariants.{Refused, NoMemory}
 use Rattle.asm_reader.specs.declared.reasons.Wants.{Wants}
-use Rattle.asm_reader.specs.Statements.{statements}
+use Rattle.asm_reader.specs.Notes.{Said}
+use Rattle.asm_reader.specs.Statements.{Statement, words_of, statements, on_line, outside, statements_of}
 use Rattle.asm_reader.specs.Views.{lexemes, refusal_of}
-use Rattle.sl_model.specs.Answers.{Refuses}
-use Rattle.sl_model.specs.ResultSteps.{◌>>=◌}
-use Rattle.sl_isa.specs.Language.{Reads}
-use Rattle.asm_reader.specs.Reading.{with_statement, with_statements}
+use Rattle.asm_reader.specs.Reading.{Draft, instr_of, said_of, with_parts, with_statement, with_statements}
 
 -- a step that fails ends all
 pub refuses_all : {A B : Type 0} (failure : ReadRefusal) (step : Result A Refusal) (next : A → Result B Refusal) → Refuses (refusal_of failure) step → Refuses (refusal_of failure) (step >>= next)
 refuses_all (Refused refusal) step next e = ap (λ r. r >>= next) e
 refuses_all NoMemory step next e = tt
 
+-- ---- statements, one after the other
+
+module _ (language : Language) (wants : Wants) where
+  -- no statements give the draft
+  pub no_statements : (draft : Draft) → with_statements language wants draft [] ≡ Ok draft
+  unfolding with_statements
+  no_statements draft = refl
+
+  -- a statement that is read
+  pub statement_read : (draft more : Draft) (statement : Statement) (statements : List Statement)
+      → with_statement language wants draft statement ≡ Ok more → with_statements language wants draft (statement ∷ statements) ≡ with_statements language wants more statements
+  unfolding with_statements
+  statement_read draft more statement statements e = ap (λ r. r >>= λ d. with_statements language wants d statements) e
+
+  -- what holds of all statements behind a draft, holds behind an answer
+  behind_answer : (r : Result Draft Refusal) (front back : List Statement)
+      → ((d : Draft) → with_statements language wants d (front ++ back) ≡ (with_statements language wants d front >>= λ more. with_statements language wants more back))
+      → (r >>= λ d. with_statements language wants d (front ++ back)) ≡ ((r >>= λ d. with_statements language wants d front) >>= λ d. with_statements language wants d back)
+  behind_answer (Ok d) front back each = each d
+  behind_answer (Err refusal) front back each = refl
+
+  -- statements and then others
+  pub statements_append : (draft : Draft) (front back : List Statement)
+      → with_statements language wants draft (front ++ back) ≡ (with_statements language wants draft front >>= λ more. with_statements language wants more back)
+  unfolding with_statements
+  statements_append draft [] back = refl
+  statements_append draft (statement ∷ front) back = behind_answer (with_statement language wants draft statement) front back (λ d. statements_append d front back)
+
 -- ---- the statements of a line
 
 -- the statements of the tokens that are left
-abbrev pub statements_of : Option (Bor (List Token)) → List (List Lexeme)
-statements_of None = []
-statements_of (Some tokens) = statements (lexemes tokens.now)
+abbrev pub left_statements : ℕ → Option (Bor (List Token)) → List Statement
+left_statements line None = []
+left_statements line (Some tokens) = on_line line (lexemes tokens.now)
+
+-- a statement of some tokens
+abbrev pub statement_at : ℕ → List Token → Statement
+statement_at line tokens = record { line = line; tokens = lexemes tokens }
 
 -- a first statement, and what is left behind it
-pub first_of : (all : List (List Lexeme)) (first : List Lexeme) (behind : Option (Bor (List Token)))
-    → MatchOption behind (all ≡ first ∷ []) (λ tokens. all ≡ first ∷ statements (lexemes tokens.now)) → all ≡ first ∷ statements_of behind
-first_of all first None e = e
-first_of all first (Some tokens) e = e
+pub first_of : (line : ℕ) (all : List (List Lexeme)) (first : List Token) (behind : Option (Bor (List Token)))
+    → MatchOption behind (all ≡ lexemes first ∷ []) (λ tokens. all ≡ lexemes first ∷ statements (lexemes tokens.now))
+    → map (λ statement. record { line = line; tokens = statement }) all ≡ statement_at line first ∷ left_statements line behind
+first_of line all first None e = ap (λ l. map (λ statement. record { line = line; tokens = statement }) l) e
+first_of line all first (Some tokens) e = ap (λ l. map (λ statement. record { line = line; tokens = statement }) l) e
 
 -- how many tokens are left, and one more where any are
 abbrev pub left_of : Option (Bor (List Token)) → ℕ
@@ -42,9 +78,66 @@ pub fewer_left : (tokens : List Token) (behind : Option (Bor (List Token))) → 
 fewer_left tokens None e = omega arith
 fewer_left tokens (Some rest) e = omega arith
 
-module _ (reads : Reads) (wants : Wants) where
+module _ (language : Language) (wants : Wants) where
   -- a statement that fails
-  pub statement_fails : (line : ℕ) (items : List Instr) (first : List Lexeme) (more : List (List Lexeme)) (failure : ReadRefusal)
-      → Refuses (refusal_of failure) (with_statement reads wants line items first) → Refuses (refusal_of failure) (with_statements reads wants line items (first ∷ more))
+  pub statement_fails : (draft : Draft) (statement : Statement) (more : List Statement) (failure : ReadRefusal)
+      → Refuses (refusal_of failure) (with_statement language wants draft statement) → Refuses (refusal_of failure) (with_statements language wants draft (statement ∷ more))
   unfolding with_statements
-  statement_fails line items first more failure e = refuses_all failure (with_statement reads wants line items first) (λ longer. with_statements reads wants line longer more) e
+  statement_fails draft statement more failure e = refuses_all failure (with_statement language wants draft statement) (λ next. with_statements language wants next more) e
+
+  -- ---- lines
+
+  -- a line that is read
+  pub line_read : (comments : Comments) (inside : Bool) (number : ℕ) (draft more : Draft) (line : List ℕ) (lines : List (List ℕ))
+      → with_statements language wants draft (on_line number (outside inside (tokens comments inside (without_end line)))) ≡ Ok more
+      → with_statements language wants draft (statements_of comments inside number (line ∷ lines))
+      ≡ with_statements language wants more (statements_of comments (open_behind inside (tokens comments inside (without_end line))) (number + 1) lines)
+  unfolding statements_of
+  line_read comments inside number draft more line lines e =
+      let behind = statements_of comments (open_behind inside (tokens comments inside (without_end line))) (number + 1) lines in
+      statements_append language wants draft (on_line number (outside inside (tokens comments inside (without_end line)))) behind
+      ∙ ap (λ r. r >>= λ d. with_statements language wants d behind) e
+
+  -- a line that fails
+  pub line_fails : (comments : Comments) (inside : Bool) (number : ℕ) (draft : Draft) (line : List ℕ) (lines : List (List ℕ)) (failure : ReadRefusal)
+      → Refuses (refusal_of failure) (with_statements language wants draft (on_line number (outside inside (tokens comments inside (without_end line)))))
+      → Refuses (refusal_of failure) (with_statements language wants draft (statements_of comments inside number (line ∷ lines)))
+  unfolding statements_of
+  line_fails comments inside number draft line lines failure e =
+      let here = on_line number (outside inside (tokens comments inside (without_end line))) in
+      let behind = statements_of comments (open_behind inside (tokens comments inside (without_end line))) (number + 1) lines in
+      subst (Refuses (refusal_of failure)) (sym (statements_append language wants draft here behind))
+      (refuses_all failure (with_statements language wants draft here) (λ d. with_statements language wants d behind) e)
+
+  -- no lines give the draft
+  pub no_lines_read : (comments : Comments) (inside : Bool) (number : ℕ) (draft : Draft) → with_statements language wants draft (statements_of comments inside number []) ≡ Ok draft
+  unfolding statements_of with_statements
+  no_lines_read comments inside number draft = refl
+
+-- ---- a statement
+
+module _ (language : Language) (wants : Wants) (draft : Draft) (statement : Statement) where
+  -- its words are refused
+  pub words_fail : (failure : ReadRefusal) → Refuses (refusal_of failure) (instr_of language.reads statement.line (words_of statement.tokens)) → Refuses (refusal_of failure) (with_statement language wants draft statement)
+  unfolding with_statement
+  words_fail failure e =
+      refuses_all failure (instr_of language.reads statement.line (words_of statement.tokens))
+      (λ instr. said_of wants statement >>= λ said. with_parts language.isa wants statement.line draft said instr) e
+
+  -- its words are read
+  pub words_read : (instr : Option Instr) → instr_of language.reads statement.line (words_of statement.tokens) ≡ Ok instr
+      → with_statement language wants draft statement ≡ (said_of wants statement >>= λ said. with_parts language.isa wants statement.line draft said instr)
+  unfolding with_statement
+  words_read instr e = ap (λ r. r >>= λ i. said_of wants statement >>= λ said. with_parts language.isa wants statement.line draft said i) e
+
+  -- its note is refused
+  pub note_fails : (instr : Option Instr) (failure : ReadRefusal) → instr_of language.reads statement.line (words_of statement.tokens) ≡ Ok instr
+      → Refuses (refusal_of failure) (said_of wants statement) → Refuses (refusal_of failure) (with_statement language wants draft statement)
+  note_fails instr failure e refuses =
+      subst (Refuses (refusal_of failure)) (sym (words_read instr e))
+      (refuses_all failure (said_of wants statement) (λ said. with_parts language.isa wants statement.line draft said instr) refuses)
+
+  -- and both are read
+  pub parts_read : (instr : Option Instr) (said : Option Said) → instr_of language.reads statement.line (words_of statement.tokens) ≡ Ok instr → said_of wants statement ≡ Ok said
+      → with_statement language wants draft statement ≡ with_parts language.isa wants statement.line draft said instr
+  parts_read instr said e f = words_read instr e ∙ ap (λ r. r >>= λ s. with_parts language.isa wants statement.line draft s instr) f

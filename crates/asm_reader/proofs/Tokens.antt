@@ -1,5 +1,5 @@
 -- The statements of tokens, and what stands in them.
-use Rattle.std.proofs.Common.{◌≡◌, ℕ, ◌+◌, ◌-◌, ◌<◌, ◌≤◌, codes, arith, append_assoc, append-nil, Bool, true, false, not, cond, ◌||◌, List, [], ◌∷◌, ◌++◌, length, take, drop, get_or, map, filter, refl, ap, sym, ◌∙◌, take-append-drop, Some}
+use Rattle.std.proofs.Common.{◌≡◌, ℕ, ◌+◌, ◌-◌, ◌<◌, ◌≤◌, codes, arith, append_assoc, append-nil, Bool, true, false, not, cond, ◌||◌, List, [], ◌∷◌, ◌++◌, length, take, drop, get_or, filter, refl, ap, sym, ◌∙◌, take-append-drop, Some}
 use Rattle.std.proofs.lemmas.List.{take_all, take_more, take_rest, drop_more, map-append}
 use Rattle.std.proofs.lemmas.List.Folds.{list_any-append}
 use Rattle.std.specs.List.{list_any}
@@ -10,11 +10,19 @@ use Rattle.sl_model.specs.TokenTests.{is_comment, marks}
 use Rattle.asm_reader.specs.Statements.{before_first, statements, words_of, is_suffix, suffixes}
 use Rattle.asm_reader.specs.Views.{lexemes}
 use Rattle.sl_text.specs.declared.token.Tokens.{Tokens}
-use Rattle.asm_reader.proofs.ForCallers.{neither, statements_whole}
 
-pub any_map : {X Y : Type 0} (p : Y → Bool) (f : X → Y) (xs : List X) → list_any p (map f xs) ≡ list_any (λ x. p (f x)) xs
-any_map p f [] = refl
-any_map p f (x ∷ xs) = ap (λ b. p (f x) || b) (any_map p f xs)
+pub neither : (a b : Bool) → (a || b) ≡ false → (a ≡ false) × (b ≡ false)
+neither true b e = cc
+neither false b e = (refl, e)
+
+-- without `;` all tokens are one statement
+pub statements_whole : (tokens : List Lexeme) → list_any (marks 59) tokens ≡ false → statements tokens ≡ tokens ∷ []
+unfolding statements
+statements_whole [] e = refl
+statements_whole (token ∷ tokens) e =
+    let both = neither (marks 59 token) (list_any (marks 59) tokens) e in
+    ap (λ b. cond b ([] ∷ statements tokens) (before_first token (statements tokens))) both.0
+    ∙ ap (before_first token) (statements_whole tokens both.1)
 
 -- the first `;` ends the first statement
 pub statements_cut : (front : List Lexeme) (semicolon : Lexeme) (behind : List Lexeme) → list_any (marks 59) front ≡ false → marks 59 semicolon ≡ true

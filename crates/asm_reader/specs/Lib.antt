@@ -1,4 +1,12 @@
 pub mod Statements
+pub mod Notes
+pub mod Tags
 pub mod Reading
+pub mod Regions
 pub mod Views
+pub mod UnitViews
+pub mod WordViews
+pub mod TagViews
+pub mod NoteViews
+pub mod DraftViews
 pub mod RegionViews

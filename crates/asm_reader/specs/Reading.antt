@@ -1,28 +1,51 @@
--- The region that a text gives: its parts and its instructions, or the
+-- The region that a text gives: its parts, its instructions and what notes say of them, or the
 -- first reason why it gives none.
-use Rattle.std.specs.Prelude.{ℕ, ◌+◌, Bool, false, not, ◌&&◌, ◌||◌, nat_lt, List, [], ◌∷◌, ◌++◌, length, take, codes, is_some, Option, None, Some, Result, Ok, Err, if◌then◌else◌}
+use Rattle.std.specs.Prelude.{ℕ, ◌==◌, Bool, true, false, not, ◌&&◌, ◌||◌, nat_lt, List, [], ◌∷◌, ◌++◌, length, codes, is_some, Option, None, Some, Result, Ok, Err, if◌then◌else◌}
 use Rattle.std.specs.List.{list_any}
-use Rattle.std.specs.Str.{str_eq_ignore_ascii_case}
+use Rattle.std.specs.Option.{option_map}
 use Rattle.sl_model.specs.declared.register.Reg.{Reg}
 use Rattle.sl_model.specs.declared.instruction.Instr.{Instr}
 use Rattle.sl_model.specs.declared.text.Comments.{Comments}
 use Rattle.sl_model.specs.declared.text.CutRefusal.{CutRefusal}
 use Rattle.sl_model.specs.declared.text.CutRefusal.TheVariants as cuts
+use Rattle.sl_model.specs.Exec.{has_access}
+use Rattle.sl_model.specs.Isa.{Isa}
 use Rattle.sl_model.specs.ResultSteps.{◌>>=◌}
 use Rattle.sl_model.specs.Source.{outputs, place_from}
-use Rattle.sl_model.specs.Text.{Parts, whole_lines, numbered_lines, without_end, cut}
+use Rattle.sl_model.specs.Text.{Parts, whole_lines, numbered_lines, cut}
 use Rattle.sl_model.specs.Token.{Lexeme, tokens, open_behind}
 use Rattle.sl_isa.specs.declared.reasons.FormReason.{FormReason}
-use Rattle.sl_isa.specs.Language.{Reads}
+use Rattle.sl_isa.specs.Arch.{comments_of}
+use Rattle.sl_isa.specs.Language.{Reads, Language}
+use Rattle.asm_reader.specs.declared.draft.Awaiting.{Awaiting}
 use Rattle.asm_reader.specs.declared.reasons.Reason.{Reason}
 use Rattle.asm_reader.specs.declared.reasons.Reason.TheVariants as reason
 use Rattle.asm_reader.specs.declared.reasons.Refusal.{Refusal}
 use Rattle.asm_reader.specs.declared.reasons.Wants.{Wants}
-use Rattle.asm_reader.specs.Statements.{statements, words_of, has_note, is_unbuilt}
+use Rattle.asm_reader.specs.declared.words.Part.TheVariants as parts
+use Rattle.asm_reader.specs.Statements.{Statement, statements_of, words_of, begins_with, note_text, is_unbuilt}
+use Rattle.asm_reader.specs.Notes.{NoteValue, Remark, Said, of_item, of_region, note_said, mask_or}
+use Rattle.asm_reader.specs.Tags.{place_of, with_tag}
 
 -- a refusal at a line, and 0 for the whole text
 abbrev pub refused : {A : Type 0} → ℕ → Reason → Result A Refusal
 refused line reason = Err (record { line = line; reason = reason })
+
+-- ---- a region as far as it was read
+
+-- A region as far as it was read: its items, for each of them what a printed region tells of it, the
+-- names of its tags by their numbers, the mask of the first note on the region, and
+-- the last instruction while a note may be said of it.
+pub record Draft : Type 0 where
+  pub items : List Instr
+  pub notes : List NoteValue
+  pub tags : List (List ℕ)
+  pub mask : Option ℕ
+  pub awaiting : Option Awaiting
+
+-- nothing was read yet
+abbrev pub no_draft : Draft
+no_draft = record { items = []; notes = []; tags = []; mask = None; awaiting = None }
 
 -- Does an item write a register, and one that one of some items writes?
 abbrev pub writes : Reg → Instr → Bool
@@ -32,13 +55,91 @@ writes r i = is_some (place_from 0 r (outputs i))
 abbrev pub writes_again : List Instr → Instr → Bool
 writes_again items i = list_any (λ r. list_any (writes r) items) (outputs i)
 
--- The items so far with one more, on its line. Of several faults the first counts: no room for it,
--- a register that was written before.
-abbrev pub with_item : Wants → ℕ → List Instr → Instr → Result (List Instr) Refusal
-with_item wants line items i =
-    if not (nat_lt (length items) wants.limit) then refused line (reason.TooMany wants.limit)
-    else (if wants.once && writes_again items i then refused line reason.NotYet
-    else Ok (items ++ record i { line = line } ∷ []))
+-- nothing is told of an instruction but its line
+abbrev pub untold : ℕ → NoteValue
+untold line =
+    record { item = None; unit = None; cycle = None; part = parts.Plain; line = line }
+
+-- a draft with one more item, on its line, of which no note says anything yet
+abbrev pub longer : Bool → ℕ → Draft → Instr → Draft
+longer accesses line draft i = record {
+  items = draft.items ++ record i { line = line } ∷ [];
+  notes = draft.notes ++ untold line ∷ [];
+  tags = draft.tags;
+  mask = draft.mask;
+  awaiting = Some (record { line = line; accesses = accesses });
+}
+
+-- A draft with one more item. Of several faults the first counts: no room for it, a register that
+-- was written before.
+abbrev pub with_item : Wants → Bool → ℕ → Draft → Instr → Result Draft Refusal
+with_item wants accesses line draft i =
+    if not (nat_lt (length draft.items) wants.limit) then refused line (reason.TooMany wants.limit)
+    else (if wants.once && writes_again draft.items i then refused line reason.NotYet
+    else Ok (longer accesses line draft i))
+
+-- ---- what notes say
+
+-- a list whose last element is changed
+unfoldable pub with_last : {X : Type 0} → (X → X) → List X → List X
+with_last f [] = []
+with_last f (x ∷ []) = f x ∷ []
+with_last f (x ∷ y ∷ xs) = x ∷ with_last f (y ∷ xs)
+
+-- an item with its tag, by the names of the tags, and its marks
+abbrev pub marked : List (List ℕ) → Remark → Instr → Instr
+marked tags remark i = record i {
+  tag = option_map (λ name. place_of name tags) remark.tag;
+  early = remark.early;
+  late = remark.late;
+}
+
+-- a draft with what is said of its last item
+abbrev pub with_remark : Draft → Remark → Draft
+with_remark draft remark = record {
+  items = with_last (marked draft.tags remark) draft.items;
+  notes = with_last (λ note. remark.told) draft.notes;
+  tags = with_tag remark.tag draft.tags;
+  mask = draft.mask;
+  awaiting = None;
+}
+
+-- the first of two masks that is said
+abbrev pub first_mask : Option ℕ → ℕ → Option ℕ
+first_mask None mask = Some mask
+first_mask (Some first) mask = Some first
+
+-- Is there an instruction for what a note says, if that is of one?
+abbrev pub has_place : Option Said → Option Awaiting → Bool
+has_place None awaiting = true
+has_place (Some (of_item remark)) awaiting = is_some awaiting
+has_place (Some (of_region mask)) awaiting = true
+
+-- a draft with what a note says, if there is one
+abbrev pub with_said : Draft → Option Said → Draft
+with_said draft None = draft
+with_said draft (Some (of_item remark)) = with_remark draft remark
+with_said draft (Some (of_region mask)) = record draft { mask = first_mask draft.mask mask }
+
+-- May a note say this of an item? Only of one that accesses memory there is a tag.
+abbrev pub may_say : Bool → Option Said → Bool
+may_say accesses None = true
+may_say accesses (Some (of_item remark)) = if is_some remark.tag then accesses else true
+may_say accesses (Some (of_region mask)) = true
+
+-- Does the last instruction stand on this line, and may this be said of it?
+abbrev pub awaits : ℕ → Option Said → Option Awaiting → Bool
+awaits line said None = false
+awaits line said (Some last) = last.line == line && may_say last.accesses said
+
+-- May a note stand on a line without an instruction of its statement? One on the region may; any
+-- other one belongs to the last instruction before it on its line.
+abbrev pub may_stand : ℕ → Option Awaiting → Option Said → Bool
+may_stand line awaiting None = true
+may_stand line awaiting (Some (of_item remark)) = awaits line (Some (of_item remark)) awaiting
+may_stand line awaiting (Some (of_region mask)) = true
+
+-- ---- statements
 
 -- The refusal of words that are no instruction: what isn't built yet comes
 -- before the reasons of instructions.
@@ -46,57 +147,74 @@ abbrev pub form_refusal : ℕ → List Lexeme → FormReason → Refusal
 form_refusal line words form =
     record { line = line; reason = if is_unbuilt words then reason.NotYet else reason.Form form }
 
--- the items so far with what words read as, or why they are refused
-abbrev pub read_or_refused : Wants → ℕ → List Instr → List Lexeme → Result Instr FormReason
-    → Result (List Instr) Refusal
-read_or_refused wants line items words (Ok i) = with_item wants line items i
-read_or_refused wants line items words (Err form) = Err (form_refusal line words form)
+-- the instruction that words were read as, or why they are refused
+abbrev pub instr_or : ℕ → List Lexeme → Result Instr FormReason → Result (Option Instr) Refusal
+instr_or line words (Ok i) = Ok (Some i)
+instr_or line words (Err form) = Err (form_refusal line words form)
 
--- the items so far with that of the words of a statement; no words are no instruction
-abbrev pub with_words : Reads → Wants → ℕ → List Instr → List Lexeme → Result (List Instr) Refusal
-with_words reads wants line items [] = Ok items
-with_words reads wants line items (first ∷ words) =
-    read_or_refused wants line items (first ∷ words) (reads (first ∷ words))
+-- the instruction of the words of a statement; no words are none
+abbrev pub instr_of : Reads → ℕ → List Lexeme → Result (Option Instr) Refusal
+instr_of reads line [] = Ok None
+instr_of reads line (first ∷ words) = instr_or line (first ∷ words) (reads (first ∷ words))
 
--- the items so far with that of a statement; notes aren't read yet, and are refused or passed over
-abbrev pub with_statement : Reads → Wants → ℕ → List Instr → List Lexeme
-    → Result (List Instr) Refusal
-with_statement reads wants line items statement =
-    if wants.no_notes && has_note statement then refused line reason.NotYet
-    else with_words reads wants line items (words_of statement)
+-- what a note says, where it is a right one
+abbrev pub right_note : ℕ → Option Said → Result (Option Said) Refusal
+right_note line None = refused line reason.TagBad
+right_note line (Some said) = Ok (Some said)
 
--- the items so far with those of some statements of one line, in their order
-unfoldable pub with_statements : Reads → Wants → ℕ → List Instr → List (List Lexeme)
-    → Result (List Instr) Refusal
-with_statements reads wants line items [] = Ok items
-with_statements reads wants line items (statement ∷ more) =
-    with_statement reads wants line items statement
-    >>= λ longer.
-    with_statements reads wants line longer more
+-- what the note of a statement says, by its text, if there is one
+abbrev pub said_by : ℕ → Option (List ℕ) → Result (Option Said) Refusal
+said_by line None = Ok None
+said_by line (Some text) = right_note line (note_said line text)
 
--- The items so far with those of lines that are numbered from a first one; `inside` says that a
--- block comment is open before them.
-unfoldable pub with_lines : Reads → Comments → Wants → Bool → ℕ → List Instr → List (List ℕ)
-    → Result (List Instr) Refusal
-with_lines reads comments wants inside number items [] = Ok items
-with_lines reads comments wants inside number items (line ∷ lines) =
-    with_statements reads wants number items
-    (statements (tokens comments inside (without_end line)))
-    >>= λ longer.
-    with_lines reads comments wants (open_behind inside (tokens comments inside (without_end line)))
-    (number + 1) longer lines
+-- what the note of a statement says, where notes are read
+abbrev pub said_of : Wants → Statement → Result (Option Said) Refusal
+said_of wants statement =
+    if wants.notes then said_by statement.line (note_text statement.tokens) else Ok None
+
+-- a draft with what a note says that stands without an instruction of its statement
+abbrev pub with_note : ℕ → Draft → Option Said → Result Draft Refusal
+with_note line draft said =
+    if may_stand line draft.awaiting said then Ok (with_said draft said)
+    else refused line reason.TagBad
+
+-- a draft with an instruction and what its note says
+abbrev pub with_noted : Wants → Bool → ℕ → Draft → Option Said → Instr → Result Draft Refusal
+with_noted wants accesses line draft said i =
+    if may_say accesses said then
+    (with_item wants accesses line draft i >>= λ more. Ok (with_said more said))
+    else refused line reason.TagBad
+
+-- a draft with what a statement holds
+abbrev pub with_parts : Isa → Wants → ℕ → Draft → Option Said → Option Instr
+    → Result Draft Refusal
+with_parts isa wants line draft said None = with_note line draft said
+with_parts isa wants line draft said (Some i) =
+    with_noted wants (has_access (isa.info i.form)) line draft said i
+
+-- A draft with a statement. Of several faults the first counts: its words are no
+-- instruction, its note isn't right, there is no room.
+unfoldable pub with_statement : Language → Wants → Draft → Statement → Result Draft Refusal
+with_statement language wants draft statement = do
+  instr ← instr_of language.reads statement.line (words_of statement.tokens)
+  said ← said_of wants statement
+  with_parts language.isa wants statement.line draft said instr
+
+-- a draft with some statements, in their order
+unfoldable pub with_statements : Language → Wants → Draft → List Statement → Result Draft Refusal
+with_statements language wants draft [] = Ok draft
+with_statements language wants draft (statement ∷ statements) =
+    with_statement language wants draft statement
+    >>= λ more.
+    with_statements language wants more statements
+
+-- ---- what stands before the region
 
 -- Is a block comment open behind some numbered lines?
 unfoldable pub open_after : Comments → Bool → List (ℕ × List ℕ) → Bool
 open_after comments inside [] = inside
 open_after comments inside (line ∷ lines) =
     open_after comments (open_behind inside (tokens comments inside line.1)) lines
-
--- Does a text begin with a word, in letters of either case?
-abbrev pub begins_with : List ℕ → List ℕ → Bool
-begins_with word text =
-    if nat_lt (length text) (length word) then false
-    else str_eq_ignore_ascii_case (take (length word) text) word
 
 -- Does a word stand somewhere in a text, in letters of either case?
 unfoldable pub stands_in : List ℕ → List ℕ → Bool
@@ -134,23 +252,46 @@ abbrev pub parts_or : Result Parts CutRefusal → Result Parts Refusal
 parts_or (Ok parts) = Ok parts
 parts_or (Err refusal) = Err (cut_refusal refusal)
 
--- a region: its parts in the text, and its items
+-- A region: its parts in the text, its items, for each of them what a printed region
+-- tells of it, the names of its tags by their numbers, and the mask of early items.
 pub record Region : Type 0 where
   pub parts : Parts
   pub items : List Instr
+  pub notes : List NoteValue
+  pub tags : List (List ℕ)
+  pub mask : ℕ
+
+-- the region that a draft is
+abbrev pub region_from : Parts → Draft → Region
+region_from parts draft = record {
+  parts = parts;
+  items = draft.items;
+  notes = draft.notes;
+  tags = draft.tags;
+  mask = mask_or draft.mask;
+}
+
+-- the statements of a body, before which a block comment may be open
+abbrev pub body_statements : Language → Bool → ℕ → List ℕ → List Statement
+body_statements language inside first text =
+    statements_of (comments_of language.isa.name) inside first (whole_lines text)
+
+-- Is a block comment open behind what stands before a region?
+abbrev pub open_before : Language → List ℕ → Bool
+open_before language before =
+    open_after (comments_of language.isa.name) false (numbered_lines 1 before)
 
 -- the region of a text between two markers
-unfoldable pub text_region : Reads → Comments → Wants → List ℕ → List ℕ → List ℕ
-    → Result Region Refusal
-text_region reads comments wants start end text = do
+unfoldable pub text_region : Language → Wants → List ℕ → List ℕ → List ℕ → Result Region Refusal
+text_region language wants start end text = do
   parts ← parts_or (cut start end text)
   built ← unless_at (first_unbuilt (numbered_lines 1 parts.before)) parts
-  items ←
-      with_lines reads comments wants (open_after comments false (numbered_lines 1 built.before))
-      built.first [] (whole_lines built.body)
-  Ok (record { parts = built; items = items })
+  draft ←
+      with_statements language wants no_draft
+      (body_statements language (open_before language built.before) built.first built.body)
+  Ok (region_from built draft)
 
--- the items of a region that is read by itself, with nothing before it
-abbrev pub region_alone : Reads → Comments → Wants → List ℕ → Result (List Instr) Refusal
-region_alone reads comments wants text =
-    with_lines reads comments wants false 1 [] (whole_lines text)
+-- a region that is read by itself, with nothing before it
+abbrev pub region_alone : Language → Wants → List ℕ → Result Draft Refusal
+region_alone language wants text =
+    with_statements language wants no_draft (body_statements language false 1 text)

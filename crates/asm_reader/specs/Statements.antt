@@ -1,9 +1,11 @@
 -- The statements of a line, and what is asked of one before it is read. Source: a profile of GNU
 -- as, where `;` separates statements.
-use Rattle.std.specs.Prelude.{ℕ, ◌||◌, Bool, true, false, List, [], ◌∷◌, ◌++◌, codes, take, if◌then◌else◌}
+use Rattle.std.specs.Prelude.{ℕ, ◌+◌, ◌-◌, ◌||◌, nat_lt, Bool, true, false, List, [], ◌∷◌, ◌++◌, map, length, slice_get, codes, take, drop, Option, None, Some, if◌then◌else◌}
 use Rattle.std.specs.List.{list_any}
 use Rattle.std.specs.Str.{str_eq_ignore_ascii_case}
-use Rattle.sl_model.specs.Token.{Lexeme}
+use Rattle.sl_model.specs.declared.text.Comments.{Comments}
+use Rattle.sl_model.specs.Text.{without_end}
+use Rattle.sl_model.specs.Token.{Lexeme, tokens as line_tokens, open_behind}
 use Rattle.sl_model.specs.TokenTests.{is_word, is_comment, marks, touches}
 
 -- puts a token before those of the first of some statements
@@ -18,22 +20,57 @@ statements [] = [] ∷ []
 statements (token ∷ tokens) =
     if marks 59 token then [] ∷ statements tokens else before_first token (statements tokens)
 
+-- The tokens of a line behind the rest of a block comment; `inside` says that one
+-- is open before the line.
+abbrev pub outside : Bool → List Lexeme → List Lexeme
+outside false tokens = tokens
+outside true [] = []
+outside true (comment ∷ tokens) = tokens
+
+-- A statement: its line and its tokens, comments among them.
+pub record Statement : Type 0 where
+  pub line : ℕ
+  pub tokens : List Lexeme
+
+-- the statements of the tokens of a line
+abbrev pub on_line : ℕ → List Lexeme → List Statement
+on_line line tokens = map (λ statement. record { line = line; tokens = statement }) (statements tokens)
+
+-- The statements of lines that are numbered from a first one; `inside` says that a
+-- block comment is open before them.
+unfoldable pub statements_of : Comments → Bool → ℕ → List (List ℕ) → List Statement
+statements_of comments inside number [] = []
+statements_of comments inside number (line ∷ lines) =
+    on_line number (outside inside (line_tokens comments inside (without_end line)))
+    ++ statements_of comments (open_behind inside (line_tokens comments inside (without_end line)))
+    (number + 1) lines
+
 -- the tokens of a statement without its comments, each of which stands for a blank
 unfoldable pub words_of : List Lexeme → List Lexeme
 words_of [] = []
 words_of (token ∷ tokens) =
     if is_comment token.kind then words_of tokens else token ∷ words_of tokens
 
+-- Does a text begin with a word, in letters of either case?
+abbrev pub begins_with : List ℕ → List ℕ → Bool
+begins_with word text =
+    if nat_lt (length text) (length word) then false
+    else str_eq_ignore_ascii_case (take (length word) text) word
+
 -- Is a token a comment that begins with `// @slothy:`, in letters of either case?
 abbrev pub is_note : Lexeme → Bool
 is_note token =
-    if is_comment token.kind then
-    str_eq_ignore_ascii_case (take 11 token.text) (codes "// @slothy:")
-    else false
+    if is_comment token.kind then begins_with (codes "// @slothy:") token.text else false
 
--- Is one of the tokens of a statement such a comment?
-abbrev pub has_note : List Lexeme → Bool
-has_note statement = list_any is_note statement
+-- what stands behind `// @slothy:` in such a comment
+abbrev pub note_in : Option Lexeme → Option (List ℕ)
+note_in None = None
+note_in (Some token) = if is_note token then Some (drop 11 token.text) else None
+
+-- what stands behind it where the last token of a statement is such a comment; it goes
+-- to the line's end, so none stands before another token
+abbrev pub note_text : List Lexeme → Option (List ℕ)
+note_text tokens = note_in (slice_get tokens (length tokens - 1))
 
 -- Is this the name of a directive that gives a register another name, or takes it away?
 abbrev pub is_alias_word : List ℕ → Bool
@@ -89,16 +126,9 @@ mnemonic (first ∷ tokens) = if is_word first.kind then first.text ++ suffixes 
 abbrev pub branch_mnemonics : List (List ℕ)
 branch_mnemonics = codes "b" ∷ codes "b.ne" ∷ codes "bne" ∷ codes "cbnz" ∷ []
 
--- the mnemonics of accesses to memory, which aren't read yet
-abbrev pub access_mnemonics : List (List ℕ)
-access_mnemonics =
-    codes "ldr" ∷ codes "str" ∷ codes "ldur" ∷ codes "stur" ∷ codes "ldp" ∷ codes "stp" ∷ []
-
 -- Is a mnemonic one of these, in letters of either case?
-abbrev pub is_later_name : List ℕ → Bool
-is_later_name name =
-    list_any (str_eq_ignore_ascii_case name) branch_mnemonics
-    || list_any (str_eq_ignore_ascii_case name) access_mnemonics
+abbrev pub is_branch : List ℕ → Bool
+is_branch name = list_any (str_eq_ignore_ascii_case name) branch_mnemonics
 
 -- Does a statement begin as a directive, as one that gives a register
 -- another name, or with a label?
@@ -106,9 +136,9 @@ abbrev pub begins_unbuilt : List Lexeme → Bool
 begins_unbuilt tokens =
     if begins_with_dot tokens then true else (if is_aliasing tokens then true else has_label tokens)
 
--- Is a statement, without its comments, one that isn't read yet: a directive, a label, a branch, an
--- access, or one with a symbolic register?
+-- Is a statement, without its comments, one that isn't read yet: a directive, a label, a branch, or
+-- one with a symbolic register?
 abbrev pub is_unbuilt : List Lexeme → Bool
 is_unbuilt tokens =
     if begins_unbuilt tokens then true
-    else (if is_later_name (mnemonic tokens) then true else list_any (marks 60) tokens)
+    else (if is_branch (mnemonic tokens) then true else list_any (marks 60) tokens)

@@ -1,10 +1,21 @@
 //! Reading the region of a text: a straight list of instructions between two markers.
 #![tactic(auto)]
 
-mod items;
+mod draft;
+mod last;
+mod lines;
+pub mod note;
+mod reading;
 pub mod reasons;
 pub mod region;
 mod statements;
+pub mod tags;
+pub mod unit_name;
+mod words;
 
+pub use note::{Note, Notes};
 pub use reasons::{ReadRefusal, Reason, Refusal, Wants};
 pub use region::{Region, read_region};
+pub use tags::Tags;
+pub use unit_name::UnitName;
+pub use words::Part;

@@ -10,12 +10,12 @@ use std::alloc::{AllocError, AllocFailed};
 #[derive(Clone, Copy, Debug, PartialEq, Eq)]
 pub struct Wants {
     /// The most instructions that it may have.
-    pub limit: usize,
+    pub limit: u16,
     /// Is each register written at most once?
     pub once: bool,
-    /// Are notes, which are comments that begin with `// @slothy:`,
-    /// refused? Else they are comments.
-    pub no_notes: bool,
+    /// Are notes read, which are comments that begin with `// @slothy:`?
+    /// Else they are passed over.
+    pub notes: bool,
 }
 
 /// Why a region isn't read.
@@ -25,10 +25,12 @@ pub enum Reason {
     Cut(CutRefusal),
     /// A statement is no instruction.
     Form(FormReason),
+    /// A note isn't right, or stands where it can't.
+    TagBad,
     /// There is something that isn't built yet.
     NotYet,
     /// There are more than so many instructions.
-    TooMany(usize),
+    TooMany(u16),
 }
 
 /// Where a text is refused first, and why. Lines are counted from 1,

@@ -1,28 +1,38 @@
 //! The region of a text: its instructions, or why it has none.
 ghost use Rattle.std.specs.Prelude.{◌≡◌, ◌≤◌, ◌<◌, ◌^◌, length, IfOk};
-ghost use Rattle.std.specs.List.{AllByRecursion};
 ghost use Rattle.sl_model.specs.Text.{numbered_lines, cut};
-ghost use Rattle.sl_model.specs.Lawful.{IsValid, AreValid};
 ghost use Rattle.sl_text.specs.Cut.{parts_of};
 ghost use Rattle.asm_reader.specs.Reading as spec;
 ghost use Rattle.asm_reader.specs.RegionViews.{region_of};
-ghost use Rattle.sl_isa.specs.Arch.{comments_of};
+ghost use Rattle.asm_reader.specs.DraftViews.{draft_value};
+ghost use Rattle.asm_reader.specs.Regions.{IsRegion};
 ghost use Rattle.sl_model.specs.Answers.{Answers, Gives};
 ghost use Rattle.asm_reader.specs.Views.{refusal_of};
 
-use crate::items::{Manner, is_open_after, items_of};
+use crate::draft::Draft;
+use crate::lines::{draft_of, is_open_after};
+use crate::note::Notes;
+use crate::reading::Manner;
 use crate::reasons::{ReadRefusal, Reason, Refusal, Wants};
+use crate::statements::begins_with;
+use crate::tags::Tags;
 use sl_isa::{Arch, Instr, comment_kind};
 use sl_text::{Cut, CutRefusal, cut_region, lines};
 use std::alloc::Global;
 
-/// A region: its text, cut at the markers, and its instructions.
+/// A region: its text, cut at the markers, its instructions, and what notes say.
 #[derive(Drop)]
 pub struct Region<'a> {
     /// The text, cut at the markers.
     pub cut: Cut<'a>,
     /// The instructions.
     pub items: Vec<Instr>,
+    /// The names of their tags.
+    pub tags: Tags<'a>,
+    /// A note for each instruction.
+    pub notes: Notes,
+    /// The mask of early items that the first note on the region says, and 0 without.
+    pub early_mask: u64,
 }
 
 // The refusal of a cut.
@@ -50,16 +60,6 @@ fn cut_parts<'a>(text: &'a str, start: &str, end: &str) -> Result<Cut<'a>, Refus
         Ok(cut) => Ok(cut),
         Err(refusal) => Err(cut_refusal(refusal)),
     }
-}
-
-// Does a text begin with a word, in letters of either case?
-fn begins_with(text: &[u8], word: &[u8]) -> bool
-    ensures { result ≡ spec.begins_with word.now text.now }
-{
-    if text.len() < word.len() {
-        return false;
-    }
-    text[..word.len()].eq_ignore_ascii_case(word)
 }
 
 // Does a word stand somewhere in a text, in letters of either case?
@@ -118,6 +118,20 @@ fn built_parts(cut: Cut<'_>) -> Result<Cut<'_>, Refusal>
     }
 }
 
+// The region that a draft is.
+fn region_from<'a>(cut: Cut<'a>, draft: Draft<'a>) -> Region<'a>
+    ensures { region_of result ≡ spec.region_from (parts_of cut.entry) (draft_value draft.entry) }
+{
+    let early_mask = draft.mask.unwrap_or(0);
+    Region {
+        cut,
+        items: draft.items,
+        tags: draft.tags,
+        notes: Notes::new(draft.notes),
+        early_mask,
+    }
+}
+
 /// The region of a text between the lines of two labels.
 ///
 /// # Errors
@@ -135,12 +149,8 @@ pub fn read_region<'a, A: Arch>(
 ) -> Result<Region<'a>, ReadRefusal>
     requires { length text.now < 2 ^ 31 }
     ensures answer { Gives refusal_of region_of result
-        (spec.text_region A.language.reads
-        (comments_of A.language.isa.name) wants start.now end.now text.now) }
-    ensures few { IfOk result (λ region. length region.items.items ≤ wants.limit) }
-    ensures valid { IfOk result
-        (λ region. AllByRecursion (IsValid A.language.isa) region.items.items) }
-    ensures each_valid { IfOk result (λ region. AreValid A.language.isa region.items.items) }
+        (spec.text_region A.language wants start.now end.now text.now) }
+    ensures right { IfOk result (λ region. IsRegion A.language wants (region_of region)) }
 {
     let comments = comment_kind(arch.name());
     let cut = cut_parts(text, start, end)?;
@@ -151,6 +161,6 @@ pub fn read_region<'a, A: Arch>(
         comments,
         wants,
     };
-    let items = items_of(arch, manner, cut.body, cut.first, inside)?;
-    Ok(Region { cut, items })
+    let draft = draft_of(arch, manner, cut.body, cut.first, inside)?;
+    Ok(region_from(cut, draft))
 }

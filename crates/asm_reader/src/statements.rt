@@ -1,9 +1,10 @@
 //! The statements of a line, and what is asked of one before it is read.
-ghost use Rattle.std.specs.Prelude.{◌≡◌, ◌<◌, ◌++◌, ⊤, not, [], ◌∷◌, codes, filter, length, IfOk, OnOk, MatchOption};
+ghost use Rattle.std.specs.Prelude.{◌≡◌, ◌<◌, ◌++◌, ⊤, not, [], ◌∷◌, codes, filter, length, IfOk, OnOk, MatchOption, Some};
 ghost use Rattle.std.specs.List.{list_any};
 ghost use Rattle.std.specs.Str.{str_eq_ignore_ascii_case};
 ghost use Rattle.sl_text.specs.Tokens.{token_value};
 ghost use Rattle.asm_reader.specs.Views.{lexemes};
+ghost use Rattle.asm_reader.specs.WordViews.{bytes_value};
 ghost use Rattle.sl_model.specs.TokenTests as tests;
 ghost use Rattle.asm_reader.specs.Statements as spec;
 
@@ -12,6 +13,29 @@ use std::alloc::{AllocError, Global};
 
 /// How a comment that is a note begins.
 const NOTE: &[u8; 11] = b"// @slothy:";
+
+/// A statement: its tokens, comments among them.
+#[derive(Clone, Copy)]
+pub(crate) struct Statement<'t, 'a> {
+    /// The line that it stands on.
+    pub line: u32,
+    /// Its tokens.
+    pub tokens: &'t [Token<'a>],
+}
+
+/// The tokens of a line behind the rest of a block comment; `inside` says that one is open before
+/// the line.
+pub(crate) fn outside<'t, 'a>(inside: bool, tokens: &'t [Token<'a>]) -> &'t [Token<'a>]
+    ensures { lexemes result.now ≡ spec.outside inside (lexemes tokens.now) }
+{
+    if !inside {
+        return tokens;
+    }
+    let Some((_, behind)) = tokens.split_first() else {
+        return tokens;
+    };
+    behind
+}
 
 /// The tokens of the first statement of some tokens, and those behind its `;` where it has one.
 pub(crate) fn first_statement<'t, 'a>(
@@ -46,23 +70,36 @@ pub(crate) fn words_of<'a>(
         .collect(alloc)
 }
 
-// Whether a token is a note.
-fn is_note(token: &Token<'_>) -> bool
-    ensures { result ≡ spec.is_note (token_value token.now) }
+/// Whether a text begins with a word, in letters of either case.
+pub(crate) fn begins_with(text: &[u8], word: &[u8]) -> bool
+    ensures { result ≡ spec.begins_with word.now text.now }
 {
-    if !token.is_comment() {
+    if text.len() < word.len() {
         return false;
     }
-    let bytes = token.text.as_bytes();
-    let front = &bytes[..bytes.len().min(NOTE.len())];
-    front.eq_ignore_ascii_case(NOTE)
+    text[..word.len()].eq_ignore_ascii_case(word)
 }
 
-/// Whether a note stands in a statement.
-pub(crate) fn has_note(statement: &[Token<'_>]) -> bool
-    ensures { result ≡ list_any (λ token. spec.is_note (token_value token)) statement.now }
+// What stands behind `// @slothy:` in a token that is a note.
+fn note_in<'a>(token: &Token<'a>) -> Option<&'a [u8]>
+    ensures { bytes_value result ≡ spec.note_in (Some (token_value token.now)) }
 {
-    statement.iter().any(|token| is_note(token))
+    if !token.is_comment() {
+        return None;
+    }
+    let text = token.text.as_bytes();
+    if !begins_with(text, NOTE) {
+        return None;
+    }
+    text.get(NOTE.len()..)
+}
+
+/// What stands behind it where the last token of a statement is a note.
+#[tactic(auto, using(crate::proofs::Mapped::get_map))]
+pub(crate) fn note_text<'a>(tokens: &[Token<'a>]) -> Option<&'a [u8]>
+    ensures { bytes_value result ≡ spec.note_text (lexemes tokens.now) }
+{
+    note_in(tokens.last()?)
 }
 
 // Whether a word names a directive that gives a register another name, or takes it away.
@@ -208,7 +245,7 @@ fn mnemonic(alloc: Global, tokens: &[Token<'_>]) -> Result<Vec<u8>, AllocError>
 
 // Whether a mnemonic is one of a branch.
 fn is_branch(name: &[u8]) -> bool
-    ensures { result ≡ list_any (str_eq_ignore_ascii_case name.now) spec.branch_mnemonics }
+    ensures { result ≡ spec.is_branch name.now }
 {
     if name.eq_ignore_ascii_case(b"b") {
         return true;
@@ -220,35 +257,6 @@ fn is_branch(name: &[u8]) -> bool
         return true;
     }
     name.eq_ignore_ascii_case(b"cbnz")
-}
-
-// Whether a mnemonic is one of an access to memory, which isn't read yet.
-fn is_later_access(name: &[u8]) -> bool
-    ensures { result ≡ list_any (str_eq_ignore_ascii_case name.now) spec.access_mnemonics }
-{
-    if name.eq_ignore_ascii_case(b"ldr") {
-        return true;
-    }
-    if name.eq_ignore_ascii_case(b"str") {
-        return true;
-    }
-    if name.eq_ignore_ascii_case(b"ldur") {
-        return true;
-    }
-    if name.eq_ignore_ascii_case(b"stur") {
-        return true;
-    }
-    if name.eq_ignore_ascii_case(b"ldp") {
-        return true;
-    }
-    name.eq_ignore_ascii_case(b"stp")
-}
-
-// Whether a mnemonic is one of these.
-fn is_later_name(name: &[u8]) -> bool
-    ensures { result ≡ spec.is_later_name name.now }
-{
-    is_branch(name) || is_later_access(name)
 }
 
 // Whether the beginning of a statement says that it isn't read yet: a directive, a
@@ -280,7 +288,7 @@ pub(crate) fn is_unbuilt(alloc: Global, tokens: &[Token<'_>]) -> Result<bool, Al
         return Ok(true);
     }
     let name = mnemonic(alloc, tokens)?;
-    if is_later_name(&name) {
+    if is_branch(&name) {
         return Ok(true);
     }
     Ok(has_symbol(tokens))

@@ -1,5 +1,5 @@
 //! The command as a whole, and costs: how calls have to end.
-use crate::calls::{Faults, NONE, Usual, answer_to, compare, compare_usage, repeated};
+use crate::calls::{Faults, NONE, Usual, answer_to, compare, compare_usage, is_well, repeated};
 use sample_set::Failing;
 use std::alloc::{AllocError, Global};
 use std::thread::Threads;
@@ -96,8 +96,9 @@ blanks about the markers|=|  \tslothy_start:  // here
 a load|=|slothy_start:
         ldr x1, [x0]
 slothy_end:
-||3||slothy: k.s:2: refused: NotYet
-~
+||0|kind=straight n=1 cycles=1 stalls=0
+c=0 u=u i=0 line=2 ldr x1, [x0]
+|~
 statements of all kinds|=|slothy_start:
         add x1, x2, x3
 
@@ -113,7 +114,7 @@ c=6 u=u i=3 line=5 sub x6, x5, #1
 a note|=|slothy_start:
         add x1, x2, x3 // @slothy:tag=t
 slothy_end:
-||3||slothy: k.s:2: refused: NotYet
+||3||slothy: k.s:2: refused: TagBad
 ~
 an unknown mnemonic|=|slothy_start:
         madden x1, x2
@@ -245,18 +246,16 @@ a note behind a semicolon|=|slothy_start:
 ; // @slothy:i=0
 foo
 slothy_end:
-||3||slothy: k.s:3: refused: NotYet
+||3||slothy: k.s:3: refused: TagBad
 ~
 ";
 
 #[test]
-fn each_input_has_its_answer(rt: HostRuntime) -> Result<(), AllocError> {
+fn each_input_has_its_answer(rt: HostRuntime) -> Failing {
     let mut failing = Failing::new(rt.alloc());
-    compare(&rt, rt.alloc(), &mut failing, COST, INPUTS)?;
-    compare(&rt, rt.alloc(), &mut failing, COST, STATEMENTS)?;
-    let found = failing.text();
-    assert!(rt; found.is_empty(), "{found}");
-    Ok(())
+    compare(&rt, rt.alloc(), &mut failing, COST, INPUTS);
+    compare(&rt, rt.alloc(), &mut failing, COST, STATEMENTS);
+    failing
 }
 
 /// Words that are wrong.
@@ -289,48 +288,39 @@ const WRONG_WORDS: &str = "\
     cost k.s --core one:18446744073709551618";
 
 #[test]
-fn wrong_words_are_wrong_use(rt: HostRuntime) -> Result<(), AllocError> {
+fn wrong_words_are_wrong_use(rt: HostRuntime) -> Failing {
     let mut failing = Failing::new(rt.alloc());
-    compare_usage(&rt, rt.alloc(), &mut failing, WRONG_WORDS)?;
-    compare_usage(&rt, rt.alloc(), &mut failing, "")?;
-    let found = failing.text();
-    assert!(rt; found.is_empty(), "{found}");
-    Ok(())
+    compare_usage(&rt, rt.alloc(), &mut failing, WRONG_WORDS);
+    compare_usage(&rt, rt.alloc(), &mut failing, "");
+    failing
 }
 
-/// Calls on the files of which one fails: 0 chooses the file, 1 gives its bytes, and 2 says that there are no more.
-const READ_FAULTS: [(&str, u64, bool); 4] = [
-    ("choosing fails", 0, true),
-    ("the bytes fail", 1, true),
-    ("the end fails", 2, true),
-    ("nothing fails", 3, false),
-];
+/// What `cost` answers where a call fails.
+fn answer_with<R: Threads + Sync>(
+    rt: &R,
+    alloc: Global,
+    faults: Faults,
+) -> Result<String, AllocError> {
+    answer_to(rt, alloc, COST.words, COST.input.as_bytes(), b"", faults)
+}
 
+// Call 0 on the files chooses the file, 1 gives its bytes, and 2 says that there are no more.
 #[test]
-fn each_failing_call_on_the_files_is_a_read_fault(rt: HostRuntime) -> Result<(), AllocError> {
+fn each_failing_call_on_the_files_is_a_read_fault(rt: HostRuntime) -> Failing {
     let mut failing = Failing::new(rt.alloc());
-    for (name, call, fails) in READ_FAULTS {
+    for call in 0..4u32 {
         let faults = Faults {
-            files: Some(call),
+            files: Some(u64::from(call)),
             ..NONE
         };
-        let found = answer_to(
-            &rt,
-            rt.alloc(),
-            COST.words,
-            COST.input.as_bytes(),
-            b"",
-            faults,
-        )?;
-        if fails {
-            failing.compare(name, found.as_str(), "5||slothy: read fault: k.s\n")?;
+        let found = answer_with(&rt, rt.alloc(), faults);
+        if call == 3 {
+            failing.check("no call fails", is_well(found));
         } else {
-            failing.check(name, found.starts_with("0|"))?;
+            failing.compare("a call fails", found, "5||slothy: read fault: k.s\n");
         }
     }
-    let found = failing.text();
-    assert!(rt; found.is_empty(), "{found}");
-    Ok(())
+    failing
 }
 
 /// What was written of the message of a missing file, which is written in three pieces, where one of them fails.
@@ -342,71 +332,58 @@ const MESSAGE_FAULTS: [(u64, &str); 4] = [
 ];
 
 #[test]
-fn a_failing_error_output_changes_no_status(rt: HostRuntime) -> Result<(), AllocError> {
+fn a_failing_error_output_changes_no_status(rt: HostRuntime) -> Failing {
     let mut failing = Failing::new(rt.alloc());
-    for (call, wanted) in MESSAGE_FAULTS {
+    let words = "cost none.s --core one:2";
+    for (call, wanted) in &MESSAGE_FAULTS {
         let faults = Faults {
-            err: Some(call),
+            err: Some(*call),
             ..NONE
         };
-        let found = answer_to(
-            &rt,
-            rt.alloc(),
-            "cost none.s --core one:2",
-            b"",
-            b"",
-            faults,
-        )?;
-        failing.compare(wanted, found.as_str(), wanted)?;
+        let found = answer_to(&rt, rt.alloc(), words, b"", b"", faults);
+        failing.compare(wanted, found, wanted);
     }
-    let found = failing.text();
-    assert!(rt; found.is_empty(), "{found}");
-    Ok(())
+    failing
+}
+
+/// What is left where a write of 20 bytes fails: what was written before it, and a message.
+fn wanted_at(alloc: Global, write: usize) -> Result<String, AllocError> {
+    let sent = write.saturating_mul(20);
+    let text = COST_TEXT.get(..sent).unwrap_or("");
+    format!(in alloc; "6|{text}|slothy: write fault after {sent} bytes\n")
+}
+
+/// Is what was written before a failing write there, and no more?
+fn is_left<R: Threads + Sync>(rt: &R, alloc: Global, write: usize) -> Result<bool, AllocError> {
+    let faults = Faults {
+        out: Some(write as u64),
+        most: 20,
+        ..NONE
+    };
+    let found = answer_with(rt, alloc, faults)?;
+    Ok(found.as_str() == wanted_at(alloc, write)?.as_str())
 }
 
 // The text has 138 bytes, which is 7 writes of at most 20: where one fails, what was written before it is there, and no more.
 #[test]
-fn each_failing_write_leaves_what_was_written_before(rt: HostRuntime) -> Result<(), AllocError> {
+fn each_failing_write_leaves_what_was_written_before(rt: HostRuntime) -> Failing {
     let mut failing = Failing::new(rt.alloc());
-    for write in 0..7u32 {
-        let faults = Faults {
-            out: Some(u64::from(write)),
-            most: 20,
-            ..NONE
-        };
-        let found = answer_to(
-            &rt,
-            rt.alloc(),
-            COST.words,
-            COST.input.as_bytes(),
-            b"",
-            faults,
-        )?;
-        let sent = write.saturating_mul(20);
-        let back = format!(in rt.alloc(); "|slothy: write fault after {sent} bytes\n")?;
-        let front = found.as_str().strip_suffix(back.as_str()).unwrap_or("");
-        let text = front.strip_prefix("6|").unwrap_or("none");
-        let is_left = COST_TEXT.starts_with(text) && text.len() == sent as usize;
-        failing.check(found.as_str(), is_left)?;
+    for write in 0..7 {
+        failing.check_number(write, is_left(&rt, rt.alloc(), write) == Ok(true));
     }
     let faults = Faults {
         out: Some(7),
         most: 20,
         ..NONE
     };
-    let found = answer_to(
-        &rt,
-        rt.alloc(),
-        COST.words,
-        COST.input.as_bytes(),
-        b"",
-        faults,
-    )?;
-    let wanted = format!(in rt.alloc(); "0|{COST_TEXT}|")?;
-    failing.compare("no write fails", found.as_str(), wanted.as_str())?;
-    let found = failing.text();
-    assert!(rt; found.is_empty(), "{found}");
-    Ok(())
+    let wanted =
+        "0|kind=straight n=3 cycles=4 stalls=1\nc=0 u=u i=0 line=2 add x2, x1, x0\nc=2 u=u i=1 line=3 eor x3, x2, x2\nc=3 u=u i=2 line=4 sub x4, x1, x0\n|";
+    failing.compare(
+        "no write fails",
+        answer_with(&rt, rt.alloc(), faults),
+        wanted,
+    );
+    failing
 }
 
 /// What `cost` has to answer to a chain of so many items at a latency.
@@ -431,14 +408,13 @@ fn costs_of_chain(alloc: Global, count: u32, latency: u32) -> Result<String, All
 
 const LINE: &str = "        add x1, x1, x2\n";
 
-/// Notes the chain where its costs are others.
-fn compare_chain<R: Threads + Sync>(
+/// Does a chain have its costs?
+fn has_costs<R: Threads + Sync>(
     rt: &R,
     alloc: Global,
-    failing: &mut Failing,
     count: u32,
     latency: u32,
-) -> Result<(), AllocError> {
+) -> Result<bool, AllocError> {
     let text = repeated(
         alloc,
         "slothy_start:\n",
@@ -448,23 +424,20 @@ fn compare_chain<R: Threads + Sync>(
     )?;
     let words = format!(in alloc; "cost k.s --core one:{latency}")?;
     let found = answer_to(rt, alloc, words.as_str(), text.as_bytes(), b"", NONE)?;
-    let wanted = costs_of_chain(alloc, count, latency)?;
-    let name = format!(in alloc; "{count} items at latency {latency}")?;
-    failing.compare(name.as_str(), found.as_str(), wanted.as_str())
+    Ok(found.as_str() == costs_of_chain(alloc, count, latency)?.as_str())
 }
 
 // With memory at hand regions of every length up to 64 have their costs.
 #[test]
-fn chains_of_any_length_have_their_costs(rt: HostRuntime) -> Result<(), AllocError> {
+fn chains_of_any_length_have_their_costs(rt: HostRuntime) -> Failing {
     let mut failing = Failing::new(rt.alloc());
-    for count in [0, 1, 8, 9, 31, 32, 33, 48, 49, 63, 64] {
-        for latency in [1, 2, 255] {
-            compare_chain(&rt, rt.alloc(), &mut failing, count, latency)?;
+    for count in &[0, 1, 8, 9, 31, 32, 33, 48, 49, 63, 64] {
+        for latency in &[1, 2, 255] {
+            let has_costs = has_costs(&rt, rt.alloc(), *count, *latency);
+            failing.check_number(*count as usize, has_costs == Ok(true));
         }
     }
-    let found = failing.text();
-    assert!(rt; found.is_empty(), "{found}");
-    Ok(())
+    failing
 }
 
 /// An input of a front, a line so many times, and a back, and how its call has to end.
@@ -529,24 +502,31 @@ const LIMITS: [Grown; 7] = [
     ),
 ];
 
+/// What `cost` answers to an input.
+fn answer_of_grown<R: Threads + Sync>(
+    rt: &R,
+    alloc: Global,
+    grown: &Grown,
+) -> Result<String, AllocError> {
+    let (front, line, count, back, _) = *grown;
+    let text = repeated(alloc, front, line, count, back)?;
+    answer_to(
+        rt,
+        alloc,
+        "cost k.s --core one:1",
+        text.as_bytes(),
+        b"",
+        NONE,
+    )
+}
+
 #[test]
-fn sixty_four_items_and_a_mebibyte_are_the_limits(rt: HostRuntime) -> Result<(), AllocError> {
+fn sixty_four_items_and_a_mebibyte_are_the_limits(rt: HostRuntime) -> Failing {
     let mut failing = Failing::new(rt.alloc());
-    for (front, line, count, back, wanted) in LIMITS {
-        let text = repeated(rt.alloc(), front, line, count, back)?;
-        let found = answer_to(
-            &rt,
-            rt.alloc(),
-            "cost k.s --core one:1",
-            text.as_bytes(),
-            b"",
-            NONE,
-        )?;
-        failing.compare(wanted, found.as_str(), wanted)?;
+    for grown in &LIMITS {
+        failing.compare(grown.4, answer_of_grown(&rt, rt.alloc(), grown), grown.4);
     }
-    let found = failing.text();
-    assert!(rt; found.is_empty(), "{found}");
-    Ok(())
+    failing
 }
 
 /// Places of a byte that belongs to no character, and the message.
@@ -556,18 +536,20 @@ const NO_TEXT: [(usize, &str); 3] = [
     (90, "3||slothy: k.s:5: refused: NotText\n"),
 ];
 
-#[test]
-fn bytes_that_are_no_text_are_refused_at_their_line(rt: HostRuntime) -> Result<(), AllocError> {
-    let mut failing = Failing::new(rt.alloc());
-    for (place, wanted) in NO_TEXT {
-        let mut text = Vec::from_slice(rt.alloc(), COST.input.as_bytes())?;
-        if let Some(byte) = text.get_mut(place) {
-            *byte = 0xff;
-        }
-        let found = answer_to(&rt, rt.alloc(), COST.words, &text, b"", NONE)?;
-        failing.compare(wanted, found.as_str(), wanted)?;
+/// What `cost` answers where a byte belongs to no character.
+fn answer_at<R: Threads + Sync>(rt: &R, alloc: Global, place: usize) -> Result<String, AllocError> {
+    let mut text = Vec::from_slice(alloc, COST.input.as_bytes())?;
+    if let Some(byte) = text.get_mut(place) {
+        *byte = 0xff;
     }
-    let found = failing.text();
-    assert!(rt; found.is_empty(), "{found}");
-    Ok(())
+    answer_to(rt, alloc, COST.words, &text, b"", NONE)
+}
+
+#[test]
+fn bytes_that_are_no_text_are_refused_at_their_line(rt: HostRuntime) -> Failing {
+    let mut failing = Failing::new(rt.alloc());
+    for (place, wanted) in &NO_TEXT {
+        failing.compare(wanted, answer_at(&rt, rt.alloc(), *place), wanted);
+    }
+    failing
 }

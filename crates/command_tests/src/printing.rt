@@ -1,30 +1,37 @@
 //! Written files, of regions that are read and printed in their own order.
 use arm64_table::Arm64;
-use asm_printer::written_text;
-use asm_reader::{Wants, read_region};
-use legal_space::Choice;
+use asm_printer::{Head, Plan, written_text};
+use asm_reader::{Note, Notes, Part, UnitName, Wants, read_region};
+use sample_set::Failing;
 use sl_text::text_of;
 use std::alloc::{AllocError, Global};
 
 const WANTS: Wants = Wants {
     limit: 5000,
     once: false,
-    no_notes: true,
+    notes: true,
 };
 
-/// The own order of so many items, and the cycles 0, 2, 4 ..
-fn own_order(alloc: Global, count: u16) -> Result<(Vec<Choice>, Vec<u32>), AllocError> {
-    let mut schedule = Vec::new(alloc);
-    let mut cycles = Vec::new(alloc);
+/// The plan of so many items in their own order, with the cycles 0, 2, 4 ..
+fn own_plan(alloc: Global, count: u16) -> Result<Plan, AllocError> {
+    let mut notes = Vec::new(alloc);
     for item in 0..count {
-        schedule.push(Choice {
-            item,
-            unit: 0,
-            outs: [None; 3],
+        notes.push(Note {
+            item: Some(item),
+            unit: Some(UnitName::new("u")),
+            cycle: Some(u32::from(item).saturating_mul(2)),
+            part: Part::Plain,
+            line: u32::from(item).saturating_add(3),
         })?;
-        cycles.push(u32::from(item).saturating_mul(2))?;
     }
-    Ok((schedule, cycles))
+    Ok(Plan {
+        head: Head {
+            items: count,
+            cycles: 7,
+            stalls: 5,
+        },
+        notes: Notes::new(notes),
+    })
 }
 
 /// A text of so many bytes before a region of so many items, with this end of its lines.
@@ -70,17 +77,8 @@ fn written(alloc: Global, text: &str, count: u16) -> Result<String, AllocError> 
     let Ok(region) = read_region(&Arm64, alloc, text, "s", "e", WANTS) else {
         return Err(AllocError);
     };
-    let (schedule, cycles) = own_order(alloc, count)?;
-    let written = written_text(
-        &Arm64,
-        alloc,
-        &region.cut,
-        &region.items,
-        &schedule,
-        &cycles,
-        7,
-        5,
-    );
+    let plan = own_plan(alloc, count)?;
+    let written = written_text(&Arm64, alloc, &region, &region.items, &plan);
     let Ok(bytes) = written else {
         return Err(AllocError);
     };
@@ -113,16 +111,19 @@ const FILES: [(usize, u16, &str); 16] = [
     (1048576, 3, "\n"),
 ];
 
+/// Is a file written as it should be?
+fn is_right(alloc: Global, before: usize, count: u16, end: &str) -> Result<bool, AllocError> {
+    let text = text_with(alloc, before, u32::from(count), end)?;
+    let found = written(alloc, text.as_str(), count)?;
+    Ok(found.as_str() == wanted_for(alloc, before, u32::from(count), end)?.as_str())
+}
+
 #[test]
-fn files_are_written(rt: HostRuntime) -> Result<(), AllocError> {
-    for (before, count, end) in FILES {
-        let text = text_with(rt.alloc(), before, u32::from(count), end)?;
-        let wanted = wanted_for(rt.alloc(), before, u32::from(count), end)?;
-        let found = written(rt.alloc(), text.as_str(), count)?;
-        assert!(rt;
-            found.as_str() == wanted.as_str(),
-            "{count} items behind {before} bytes"
-        );
+fn files_are_written(rt: HostRuntime) -> Failing {
+    let mut failing = Failing::new(rt.alloc());
+    for (before, count, end) in &FILES {
+        let is_right = is_right(rt.alloc(), *before, *count, end);
+        failing.check_number(before + usize::from(*count), is_right == Ok(true));
     }
-    Ok(())
+    failing
 }

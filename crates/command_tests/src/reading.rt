@@ -6,11 +6,11 @@ use sl_isa::FormReason;
 use sl_text::CutRefusal;
 use std::alloc::{AllocError, Global};
 
-/// At most 64 items, each register once, and notes as comments.
+/// At most 64 items, each register once, and notes are read.
 const WANTS: Wants = Wants {
     limit: 64,
     once: true,
-    no_notes: false,
+    notes: true,
 };
 
 fn reason_name(reason: FormReason) -> &'static str {
@@ -30,6 +30,7 @@ fn push_reason(text: &mut String, reason: Reason) -> Result<(), AllocError> {
         Reason::Cut(CutRefusal::NoEnd) => text.push_str("NoEnd"),
         Reason::Cut(CutRefusal::Twice { line }) => write!(text, "Twice {line}"),
         Reason::Form(form) => text.push_str(reason_name(form)),
+        Reason::TagBad => text.push_str("TagBad"),
         Reason::NotYet => text.push_str("NotYet"),
         Reason::TooMany(limit) => write!(text, "TooMany {limit}"),
     }
@@ -59,7 +60,7 @@ fn answer_to(alloc: Global, text: &str, wants: Wants) -> Result<String, AllocErr
 }
 
 /// What stands between the labels, from line 2 on, and its answer.
-const REGIONS: [(&str, &str); 45] = [
+const REGIONS: [(&str, &str); 43] = [
     // statements
     ("", ""),
     (" \t", ""),
@@ -82,18 +83,15 @@ const REGIONS: [(&str, &str); 45] = [
     ("b .ne 1f", "2: NotYet"),
     ("b.eq 1f", "2: UnknownMnemonic"),
     ("bl f", "2: UnknownMnemonic"),
-    ("Ldr x0, [x1]", "2: NotYet"),
+    ("Ldr x0, [x1]", "2 "),
     ("ldrb w0, [x1]", "2: UnknownMnemonic"),
-    ("stp q0, q1, [x0]", "2: NotYet"),
+    ("stp q0, q1, [x0]", "2 "),
     ("acc .req x0", "2: NotYet"),
     ("acc\t.UnReq", "2: NotYet"),
     ("acc.req x0", "2: UnknownMnemonic"),
     ("acc . req x0", "2: UnknownMnemonic"),
     ("add x<a>, x1, x2", "2: NotYet"),
     ("add x0, x1 > x2", "2: BadOperand"),
-    // notes, which are comments here
-    ("add x0,x1,x2 // @slothy:i=0", "2 "),
-    ("// @SLOTHY:region", ""),
     // registers that are written twice, and reasons
     ("add x0,x1,x2\nadd x0,x1,x2", "3: NotYet"),
     ("add x0,x1,x2\nadd w0,w1,w2", "3: NotYet"),
@@ -112,47 +110,110 @@ const REGIONS: [(&str, &str); 45] = [
     ("add x0,x1,x2\ns: // again\nnop", "3: Twice 3"),
 ];
 
-#[test]
-fn regions_have_their_answers(rt: HostRuntime) -> Result<(), AllocError> {
-    let mut failing = Failing::new(rt.alloc());
-    for (body, wanted) in REGIONS {
-        let text = format!(in rt.alloc(); "s:\n{body}\ne:\n")?;
-        let found = answer_to(rt.alloc(), text.as_str(), WANTS)?;
-        failing.compare(body, found.as_str(), wanted)?;
-    }
-    let found = failing.text();
-    assert!(rt; found.is_empty(), "{found}");
-    Ok(())
+/// The answer to what stands between the labels.
+fn answer_between(alloc: Global, body: &str, wants: Wants) -> Result<String, AllocError> {
+    let text = format!(in alloc; "s:\n{body}\ne:\n")?;
+    answer_to(alloc, text.as_str(), wants)
 }
 
-/// Statements, and whether a note stands in them, so that they are refused where notes are.
-const NOTES: [(&str, bool); 9] = [
-    ("add x0,x1,x2 // @slothy:i=0", true),
-    ("// @SLOTHY:region", true),
-    ("// @slothy", false),
-    ("//@slothy:i=0", false),
-    ("/* // @slothy: */", false),
-    ("/* */ // @slothy:", true),
-    ("add x0,x1,x2; // @slothy:", true),
-    ("add x0,x1,x2 // a // @slothy:", false),
-    ("/* // @slothy:\n */", false),
+#[test]
+fn regions_have_their_answers(rt: HostRuntime) -> Failing {
+    let mut failing = Failing::new(rt.alloc());
+    for (body, wanted) in &REGIONS {
+        failing.compare(body, answer_between(rt.alloc(), body, WANTS), wanted);
+    }
+    failing
+}
+
+/// Lines with notes, and the answer: the items' lines, or the refusal.
+const NOTES: [(&str, &str); 60] = [
+    // what is a note
+    ("add x0,x1,x2 // @slothy:i=0", "2 "),
+    ("add x0,x1,x2 // @SLOTHY:I=0", "2 "),
+    ("add x0,x1,x2 //@slothy:mem", "2 "),
+    ("add x0,x1,x2 //  @slothy:mem", "2 "),
+    ("add x0,x1,x2 // slothy:mem", "2 "),
+    ("add x0,x1,x2 // a // @slothy:mem", "2 "),
+    ("add x0,x1,x2 /* // @slothy:mem */", "2 "),
+    ("/*\n// @slothy:mem\n*/ add x0,x1,x2", "4 "),
+    ("/* x\n// @slothy:mem */ add x0,x1,x2", "3 "),
+    ("/* x\n*/ add x0,x1,x2 // @slothy:mem", "3: TagBad"),
+    // each word
+    ("add x0,x1,x2 // @slothy:", "2 "),
+    ("add x0,x1,x2 // @slothy: \t may_early\t", "2 "),
+    ("add x0,x1,x2 // @slothy:May_Late", "2 "),
+    ("ldr x0,[x1] // @slothy:MEM=_9 may_early", "2 "),
+    (
+        "add x0,x1,x2 // @slothy:i=0 u=u_2 c=0 part=dec line=7",
+        "2 ",
+    ),
+    ("add x0,x1,x2 // @slothy:PART=Pre", "2 "),
+    ("add x0,x1,x2 // @slothy:part=post", "2 "),
+    ("add x0,x1,x2 // @slothy:u=abcdefghijklmnop", "2 "),
+    (
+        "add x0,x1,x2 // @slothy:i=340282366920938463463374607431768211455",
+        "2 ",
+    ),
+    ("// @slothy:region", ""),
+    (
+        "// @slothy: Region V=2 KIND=Loop n=0 cycles=1 stalls=2 least=3 early=4",
+        "",
+    ),
+    ("// @slothy:region kind=straight", ""),
+    ("add x0,x1,x2 // @slothy:region early=3", "2 "),
+    // words that are none
+    ("add x0,x1,x2 // @slothy:late", "2: TagBad"),
+    ("add x0,x1,x2 // @slothy:may_early=1", "2: TagBad"),
+    ("add x0,x1,x2 // @slothy:i", "2: TagBad"),
+    ("add x0,x1,x2 // @slothy:i=", "2: TagBad"),
+    ("add x0,x1,x2 // @slothy:i=01", "2: TagBad"),
+    ("add x0,x1,x2 // @slothy:i=0x1", "2: TagBad"),
+    ("add x0,x1,x2 // @slothy:i=-1", "2: TagBad"),
+    ("add x0,x1,x2 // @slothy:i =1", "2: TagBad"),
+    (
+        "add x0,x1,x2 // @slothy:i=340282366920938463463374607431768211456",
+        "2: TagBad",
+    ),
+    ("ldr x0,[x1] // @slothy:mem", "2: TagBad"),
+    ("ldr x0,[x1] // @slothy:mem=", "2: TagBad"),
+    ("ldr x0,[x1] // @slothy:mem=a-b", "2: TagBad"),
+    ("add x0,x1,x2 // @slothy:u=2", "2: TagBad"),
+    ("add x0,x1,x2 // @slothy:u=_a", "2: TagBad"),
+    ("add x0,x1,x2 // @slothy:u=abcdefghijklmnopq", "2: TagBad"),
+    ("add x0,x1,x2 // @slothy:part=body", "2: TagBad"),
+    ("add x0,x1,x2 // @slothy:n=1", "2: TagBad"),
+    ("add x0,x1,x2 // @slothy:i=1 region", "2: TagBad"),
+    ("// @slothy:region i=1", "2: TagBad"),
+    ("// @slothy:region kind=both", "2: TagBad"),
+    ("// @slothy:region=1", "2: TagBad"),
+    // words that stand twice, or against each other
+    ("add x0,x1,x2 // @slothy:i=1 I=2", "2: TagBad"),
+    ("ldr x0,[x1] // @slothy:mem=a mem=b", "2: TagBad"),
+    ("add x0,x1,x2 // @slothy:may_late may_late", "2: TagBad"),
+    ("add x0,x1,x2 // @slothy:may_late may_early", "2: TagBad"),
+    ("// @slothy:region region", "2: TagBad"),
+    // which instruction a note belongs to
+    ("add x0,x1,x2 // @slothy:mem=a", "2: TagBad"),
+    ("ldr x0,[x1] // @slothy:mem=a", "2 "),
+    ("ldr x0,[x1]; add x2,x3,x4 // @slothy:mem=a", "2: TagBad"),
+    ("add x2,x3,x4; ldr x0,[x1]; // @slothy:mem=a", "2 2 "),
+    ("ldr x0,[x1]; add x2,x3,x4; // @slothy:mem=a", "2: TagBad"),
+    ("// @slothy:i=0", "2: TagBad"),
+    ("// @slothy:", "2: TagBad"),
+    ("add x0,x1,x2\n; // @slothy:i=0", "3: TagBad"),
+    ("add x0,x1,x2; ; // @slothy:i=0", "2 "),
+    // the first refusal counts
+    ("nop // @slothy:mem", "2: UnknownMnemonic"),
+    ("add x0,x1,x2; add x0,x1,x2 // @slothy:mem", "2: TagBad"),
 ];
 
 #[test]
-fn notes_are_refused_where_none_are_wanted(rt: HostRuntime) -> Result<(), AllocError> {
-    let wants = Wants {
-        no_notes: true,
-        ..WANTS
-    };
+fn notes_have_their_answers(rt: HostRuntime) -> Failing {
     let mut failing = Failing::new(rt.alloc());
-    for (body, is_note) in NOTES {
-        let text = format!(in rt.alloc(); "s:\n{body}\ne:\n")?;
-        let found = answer_to(rt.alloc(), text.as_str(), wants)?;
-        failing.check(body, is_note == (found.as_str() == "2: NotYet"))?;
+    for (body, wanted) in &NOTES {
+        failing.compare(body, answer_between(rt.alloc(), body, WANTS), wanted);
     }
-    let found = failing.text();
-    assert!(rt; found.is_empty(), "{found}");
-    Ok(())
+    failing
 }
 
 /// Is a region of so many items read, in a text with so many bytes before it?
@@ -177,18 +238,22 @@ fn is_read(alloc: Global, count: usize, before: usize, wants: Wants) -> Result<b
 
 // With memory at hand regions of any length are read, in texts of any length.
 #[test]
-fn long_regions_are_read(rt: HostRuntime) -> Result<(), AllocError> {
+fn long_regions_are_read(rt: HostRuntime) -> Failing {
     let wants = Wants {
         limit: 5000,
         once: false,
-        no_notes: true,
+        notes: true,
     };
-    for count in [0, 1, 31, 32, 33, 48, 49, 64, 65, 192, 257, 4097, 5000] {
-        assert!(rt; is_read(rt.alloc(), count, 0, wants)?, "{count} items");
+    let mut failing = Failing::new(rt.alloc());
+    for count in &[0, 1, 31, 32, 33, 48, 49, 64, 65, 192, 257, 4097, 5000] {
+        failing.check_number(*count, is_read(rt.alloc(), *count, 0, wants) == Ok(true));
     }
-    assert!(rt; !is_read(rt.alloc(), 5001, 0, wants)?);
-    for before in [64, 4096, 32768, 65536, 1048576] {
-        assert!(rt; is_read(rt.alloc(), 3, before, wants)?, "{before} bytes");
+    failing.check(
+        "past the limit",
+        is_read(rt.alloc(), 5001, 0, wants) == Ok(false),
+    );
+    for before in &[64, 4096, 32768, 65536, 1048576] {
+        failing.check_number(*before, is_read(rt.alloc(), 3, *before, wants) == Ok(true));
     }
-    Ok(())
+    failing
 }

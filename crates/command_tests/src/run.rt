@@ -1,7 +1,8 @@
 //! Runs from state files.
-use crate::calls::{Faults, NONE, Usual, answer_to, compare, compare_usage, repeated};
+use crate::calls::{Faults, NONE, Usual, answer_to, compare, compare_usage, is_well, repeated};
 use sample_set::Failing;
 use std::alloc::{AllocError, Global};
+use std::thread::Threads;
 
 /// A run of a sum.
 const RUN: Usual = Usual {
@@ -29,6 +30,29 @@ v1 = 0x80008000800080008000800080008000
 |0|v0 = 0x80008000800080008000800080008000
 v1 = 0x80008000800080008000800080008000
 v2 = 0x7fff7fff7fff7fff7fff7fff7fff7fff
+|~
+a load behind the last address|=|slothy_start:
+        ldr x1, [x0, #8]
+slothy_end:
+|x0 = 0xfffffffffffffff8
+mem 0x0 = 0100000000000000
+|0|x0 = 0xfffffffffffffff8
+x1 = 0x0000000000000001
+mem 0x0000000000000000 = 0100000000000000
+|~
+pairs|=|slothy_start:
+        stp x1, x2, [x0], #-16
+        ldp q3, q4, [x0, #16]!
+slothy_end:
+|x0 = 0x1000
+x1 = 0x807060504030201
+x2 = 0x9
+|0|x0 = 0x0000000000001000
+x1 = 0x0807060504030201
+x2 = 0x0000000000000009
+v3 = 0x00000000000000090807060504030201
+v4 = 0x00000000000000000000000000000000
+mem 0x0000000000001000 = 01020304050607080900000000000000
 |~
 flags and lines of all kinds|=|slothy_start: // the region
 \tSUBS X4, X4, #0x1 ; adcs x5, x5, xzr
@@ -130,29 +154,29 @@ const WRONG_WORDS: &str = "\
     run - --state s.txt\n\
     cost k.s --state s.txt";
 
+/// What the run of a sum answers from a state.
+fn answer_on<R: Threads + Sync>(
+    rt: &R,
+    alloc: Global,
+    state: &[u8],
+    faults: Faults,
+) -> Result<String, AllocError> {
+    answer_to(rt, alloc, RUN.words, RUN.input.as_bytes(), state, faults)
+}
+
 #[test]
-fn each_run_has_its_answer(rt: HostRuntime) -> Result<(), AllocError> {
+fn each_run_has_its_answer(rt: HostRuntime) -> Failing {
     let mut failing = Failing::new(rt.alloc());
-    compare(&rt, rt.alloc(), &mut failing, RUN, RUNS)?;
-    compare(&rt, rt.alloc(), &mut failing, RUN, RIGHT_WORDS)?;
-    compare(&rt, rt.alloc(), &mut failing, RUN, REFUSALS)?;
-    compare_usage(&rt, rt.alloc(), &mut failing, WRONG_WORDS)?;
-    let found = answer_to(
-        &rt,
-        rt.alloc(),
-        RUN.words,
-        RUN.input.as_bytes(),
-        b"x1\n\n\xff\n",
-        NONE,
-    )?;
+    compare(&rt, rt.alloc(), &mut failing, RUN, RUNS);
+    compare(&rt, rt.alloc(), &mut failing, RUN, RIGHT_WORDS);
+    compare(&rt, rt.alloc(), &mut failing, RUN, REFUSALS);
+    compare_usage(&rt, rt.alloc(), &mut failing, WRONG_WORDS);
     failing.compare(
         "no text",
-        found.as_str(),
+        answer_on(&rt, rt.alloc(), b"x1\n\n\xff\n", NONE),
         "3||slothy: s.txt:3: refused: NotText\n",
-    )?;
-    let found = failing.text();
-    assert!(rt; found.is_empty(), "{found}");
-    Ok(())
+    );
+    failing
 }
 
 /// Calls on the files of which one fails, and whose fault it is: 0 to 2 are on the region's file, and 3 to 5 on the state's.
@@ -166,45 +190,54 @@ const READ_FAULTS: [(u64, &str); 6] = [
 ];
 
 #[test]
-fn each_failing_call_is_a_read_fault_of_its_file(rt: HostRuntime) -> Result<(), AllocError> {
+fn each_failing_call_is_a_read_fault_of_its_file(rt: HostRuntime) -> Failing {
     let mut failing = Failing::new(rt.alloc());
-    let (input, state) = (RUN.input.as_bytes(), RUN.state.as_bytes());
-    for (call, wanted) in READ_FAULTS {
+    for (call, wanted) in &READ_FAULTS {
         let faults = Faults {
-            files: Some(call),
+            files: Some(*call),
             ..NONE
         };
-        let found = answer_to(&rt, rt.alloc(), RUN.words, input, state, faults)?;
-        let name = format!(in rt.alloc(); "call {call}")?;
-        failing.compare(name.as_str(), found.as_str(), wanted)?;
+        let found = answer_on(&rt, rt.alloc(), RUN.state.as_bytes(), faults);
+        failing.compare(wanted, found, wanted);
     }
     let faults = Faults {
         files: Some(6),
         ..NONE
     };
-    let found = answer_to(&rt, rt.alloc(), RUN.words, input, state, faults)?;
-    failing.check("no call fails", found.starts_with("0|"))?;
-    let found = failing.text();
-    assert!(rt; found.is_empty(), "{found}");
-    Ok(())
+    let found = answer_on(&rt, rt.alloc(), RUN.state.as_bytes(), faults);
+    failing.check("no call fails", is_well(found));
+    failing
 }
 
-const NOTHING: &[u8] = b"slothy_start:\nslothy_end:\n";
+/// What a region of nothing leaves of a state.
+fn left_of<R: Threads + Sync>(rt: &R, alloc: Global, state: &str) -> Result<String, AllocError> {
+    let nothing = b"slothy_start:\nslothy_end:\n";
+    answer_to(rt, alloc, RUN.words, nothing, state.as_bytes(), NONE)
+}
+
+/// What a region of nothing leaves of so many blanks.
+fn left_of_blanks<R: Threads + Sync>(
+    rt: &R,
+    alloc: Global,
+    count: usize,
+) -> Result<String, AllocError> {
+    left_of(rt, alloc, repeated(alloc, "", " ", count, "")?.as_str())
+}
 
 #[test]
-fn a_state_file_has_at_most_a_mebibyte(rt: HostRuntime) -> Result<(), AllocError> {
-    for (count, wanted) in [
-        (1048576, "0||"),
-        (
-            1048577,
-            "9||slothy: s.txt:0: too large: file limit=1048576\n",
-        ),
-    ] {
-        let state = repeated(rt.alloc(), "", " ", count, "")?;
-        let found = answer_to(&rt, rt.alloc(), RUN.words, NOTHING, state.as_bytes(), NONE)?;
-        assert_eq!(rt; found.as_str(), wanted);
-    }
-    Ok(())
+fn a_state_file_has_at_most_a_mebibyte(rt: HostRuntime) -> Failing {
+    let mut failing = Failing::new(rt.alloc());
+    failing.compare(
+        "a mebibyte",
+        left_of_blanks(&rt, rt.alloc(), 1048576),
+        "0||",
+    );
+    failing.compare(
+        "a byte more",
+        left_of_blanks(&rt, rt.alloc(), 1048577),
+        "9||slothy: s.txt:0: too large: file limit=1048576\n",
+    );
+    failing
 }
 
 /// A state as it is printed, of so many whole lines of memory.
@@ -219,33 +252,47 @@ fn long_state(alloc: Global, lines: u32) -> Result<String, AllocError> {
     Ok(text)
 }
 
-// With memory at hand a state of any length is read and printed.
-#[test]
-fn long_states_are_printed(rt: HostRuntime) -> Result<(), AllocError> {
-    for lines in [1, 4, 64, 256, 1200, 4096, 18000] {
-        let state = long_state(rt.alloc(), lines)?;
-        let found = answer_to(&rt, rt.alloc(), RUN.words, NOTHING, state.as_bytes(), NONE)?;
-        let wanted = format!(in rt.alloc(); "0|{state}|")?;
-        assert!(rt; found.as_str() == wanted.as_str(), "{lines} lines");
-    }
-    Ok(())
+/// Is a state of so many lines printed as it was read?
+fn is_kept<R: Threads + Sync>(rt: &R, alloc: Global, lines: u32) -> Result<bool, AllocError> {
+    let state = long_state(alloc, lines)?;
+    let found = left_of(rt, alloc, state.as_str())?;
+    Ok(found.as_str() == format!(in alloc; "0|{state}|")?.as_str())
 }
 
-// And so is what regions of any length leave: each item adds 1.
+// With memory at hand a state of any length is read and printed.
 #[test]
-fn long_regions_are_run(rt: HostRuntime) -> Result<(), AllocError> {
-    for count in [0, 1, 8, 9, 31, 32, 33, 48, 49, 63, 64] {
-        let text = repeated(
-            rt.alloc(),
-            "slothy_start:\n",
-            "        add x1, x1, x2\n",
-            count,
-            "slothy_end:\n",
-        )?;
-        let state = b"x1 = 0x0\nx2 = 0x1\n";
-        let found = answer_to(&rt, rt.alloc(), RUN.words, text.as_bytes(), state, NONE)?;
-        let wanted = format!(in rt.alloc(); "0|x1 = 0x{count:016x}\nx2 = 0x0000000000000001\n|")?;
-        assert_eq!(rt; found.as_str(), wanted.as_str(), "{count} items");
+fn long_states_are_printed(rt: HostRuntime) -> Failing {
+    let mut failing = Failing::new(rt.alloc());
+    for lines in &[1, 4, 64, 256, 1200, 4096, 18000] {
+        failing.check_number(
+            *lines as usize,
+            is_kept(&rt, rt.alloc(), *lines) == Ok(true),
+        );
     }
-    Ok(())
+    failing
+}
+
+/// Do so many items, each of which adds 1, leave their number?
+fn is_counted<R: Threads + Sync>(rt: &R, alloc: Global, count: usize) -> Result<bool, AllocError> {
+    let text = repeated(
+        alloc,
+        "slothy_start:\n",
+        "        add x1, x1, x2\n",
+        count,
+        "slothy_end:\n",
+    )?;
+    let state = b"x1 = 0x0\nx2 = 0x1\n";
+    let found = answer_to(rt, alloc, RUN.words, text.as_bytes(), state, NONE)?;
+    let wanted = format!(in alloc; "0|x1 = 0x{count:016x}\nx2 = 0x0000000000000001\n|")?;
+    Ok(found.as_str() == wanted.as_str())
+}
+
+// And so is what regions of any length leave.
+#[test]
+fn long_regions_are_run(rt: HostRuntime) -> Failing {
+    let mut failing = Failing::new(rt.alloc());
+    for count in &[0, 1, 8, 9, 31, 32, 33, 48, 49, 63, 64] {
+        failing.check_number(*count, is_counted(&rt, rt.alloc(), *count) == Ok(true));
+    }
+    failing
 }

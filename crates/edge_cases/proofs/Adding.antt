@@ -10,10 +10,11 @@ use Rattle.sl_model.specs.declared.instruction.ArchName.TheVariants.{M4}
 use Rattle.sl_model.specs.Machine.{limit_of}
 use Rattle.sl_model.specs.Register.{same_reg}
 use Rattle.sl_model.specs.RegSets.{set_has, set_count, set_of}
-use Rattle.sl_model.specs.Source.{outputs, place_from, source_of, list_sources}
+use Rattle.sl_model.specs.Source.{outputs, place_from, source_of, list_sources, numbers_below}
 use Rattle.sl_model.specs.Body.{applied, applied_from, are_apart, conflict, is_placed, held, placed_in, is_still_held, above, stands_in, all_differ}
 use Rattle.sl_model.specs.Lawful.{IsLawful, AreValid, fit, suits_set}
-use Rattle.sl_model.specs.Legal.{IsFullLegal, body_of, first_broken, numbers_below}
+use Rattle.sl_model.specs.Graph.{body_of}
+use Rattle.sl_model.specs.Legal.{IsFullLegal, first_broken}
 use Rattle.edge_cases.specs.Example.{adding_isa, adding_form, all_general, adding_items, adding_problem, adding_schedule, add, general, BreakRules}
 
 -- a register where a general one may stand takes a value of 32 bits
@@ -60,7 +61,7 @@ adding-valid (suc (suc zero)) within = record { op = refl; ins_shape = refl; out
 adding-valid (suc (suc (suc p))) within = absurd (omega arith)
 
 -- the schedule is legal and full
-pub adding-legal : IsFullLegal adding_isa adding_problem adding_schedule
+pub adding-legal : IsFullLegal adding_problem adding_schedule
 unfolding set_has set_of all_differ place_from same_reg source_of list_sources are_apart conflict is_placed held placed_in is_still_held above stands_in first_broken numbers_below
 adding-legal =
     record {
@@ -69,7 +70,7 @@ adding-legal =
     }
 
 -- and this is what it applies to
-pub adding-applied : applied (body_of adding_problem) adding_schedule ≡ add (general 4) (general 0) (general 0) ∷ add (general 3) (general 0) (general 0) ∷ add (general 2) (general 3) (general 3) ∷ []
+pub adding-applied : applied (body_of adding_problem.graph) adding_schedule ≡ add (general 4) (general 0) (general 0) ∷ add (general 3) (general 0) (general 0) ∷ add (general 2) (general 3) (general 3) ∷ []
 unfolding place_from same_reg source_of list_sources placed_in applied_from numbers_below
 adding-applied = refl
 

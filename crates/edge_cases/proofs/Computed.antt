@@ -2,13 +2,13 @@
 use Rattle.std.proofs.Common.{refl, arith}
 use Rattle.sl_model.specs.Register.{same_reg}
 use Rattle.sl_model.specs.RegSets.{set_has, set_of}
-use Rattle.sl_model.specs.Source.{place_from, source_of, list_sources}
+use Rattle.sl_model.specs.Source.{place_from, source_of, list_sources, numbers_below}
 use Rattle.sl_model.specs.State.{read, load, store}
 use Rattle.sl_model.specs.Isa.{address_at}
 use Rattle.sl_model.specs.Exec.{run, touches}
 use Rattle.sl_model.specs.Cycles.{issued_at, first_slot, unit_free, next_cycle, issued_from}
 use Rattle.sl_model.specs.Body.{are_apart, conflict, is_placed, held, placed_in, is_still_held, above, stands_in, all_differ}
-use Rattle.sl_model.specs.Legal.{first_broken, numbers_below}
+use Rattle.sl_model.specs.Legal.{first_broken}
 use Rattle.edge_cases.specs.Edges.{OfNothing, OfZero, OfLastAddress, OfWidths, OfOneItem, OfAccesses}
 use Rattle.edge_cases.proofs.States.{first-value, second-value}
 

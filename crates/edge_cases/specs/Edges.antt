@@ -21,7 +21,8 @@ use Rattle.sl_model.specs.Exec.{exec, run, touches}
 use Rattle.sl_model.specs.Body.{conflict, held, ranges_disjoint, tags_differ}
 use Rattle.sl_model.specs.Cycles.{CostTable, Push, issued, cycles_of, cycle_count, stalls}
 use Rattle.sl_model.specs.Lawful.{zero_register}
-use Rattle.sl_model.specs.Legal.{body_of, Problem, IsFullLegal, straight_problem, first_broken}
+use Rattle.sl_model.specs.Graph.{body_of, list_graph}
+use Rattle.sl_model.specs.Legal.{Problem, IsFullLegal, straight_problem, first_broken}
 use Rattle.sl_model.specs.Program.{ShareByte, turns_at}
 
 -- Of nothing: it takes no cycle and no stall, leaves the state, makes no access and reads nothing;
@@ -33,7 +34,7 @@ pub record OfNothing : Type 0 where
   pub no_access : (isa : Isa) (s : State) → touches isa [] s ≡ []
   pub entries_stay : (r : Reg) → last_source [] r ≡ Entry r
   pub schedule : (isa : Isa) (live free : List Reg) (costs : CostTable)
-      → IsFullLegal isa (straight_problem [] live free costs) []
+      → IsFullLegal (straight_problem isa [] live free costs) []
 
 -- a general register
 abbrev pub x : ℕ → Reg
@@ -154,7 +155,7 @@ twice = exchange (x 1) (x 2) (x 1) (x 2) ∷ exchange (x 1) (x 2) (x 1) (x 2) �
 abbrev pub twice_problem : Problem
 twice_problem =
     let row : CostRow = record { class = 0; units = 1; busy = 1; latency = 1; writeback = 1; back = None } in
-    straight_problem twice (x 1 ∷ x 2 ∷ []) []
+    straight_problem exchanging_isa twice (x 1 ∷ x 2 ∷ []) []
     (record { width = 1; rows = row ∷ row ∷ []; forwards = [] })
 
 -- an item on unit 0 with two outputs
@@ -174,11 +175,11 @@ pub record OfOneItem : Type 0 where
       → read (exec exchanging_isa (exchange (x 1) (x 2) (x 1) (x 2)) s) (x 2)
       ≡ (2 * read s (x 1)) % 2 ^ 64
   pub outputs_held : held (choose 0 (x 2) (x 1) ∷ []) (x 1) ≡ Item 0 1
-  pub may_overwrite : first_broken exchanging_isa twice_problem [] (choose 0 (x 1) (x 2)) ≡ None
-  pub not_before : first_broken exchanging_isa twice_problem [] (choose 1 (x 1) (x 2)) ≡ Some L2
-  pub in_one_register : first_broken exchanging_isa twice_problem [] (choose 0 (x 1) (x 1))
+  pub may_overwrite : first_broken twice_problem [] (choose 0 (x 1) (x 2)) ≡ None
+  pub not_before : first_broken twice_problem [] (choose 1 (x 1) (x 2)) ≡ Some L2
+  pub in_one_register : first_broken twice_problem [] (choose 0 (x 1) (x 1))
       ≡ Some L4
-  pub schedule : IsFullLegal exchanging_isa twice_problem
+  pub schedule : IsFullLegal twice_problem
       (choose 0 (x 1) (x 2) ∷ choose 1 (x 1) (x 2) ∷ [])
 
 -- what a form is: form 0 stores 32 bytes at a base, form 1 loads 32 bytes, and any other makes no
@@ -243,8 +244,7 @@ accesses_of_one_base =
 abbrev pub conflicts : ℕ → ℕ → Bool
 conflicts p q =
     conflict accessing_isa
-    (body_of (straight_problem accesses_of_one_base [] []
-    (record { width = 1; rows = []; forwards = [] }))) p q
+    (body_of (list_graph accessing_isa accesses_of_one_base)) p q
 
 -- Two accesses of 32 bytes of one base conflict where they share a byte and one of them stores. A
 -- base that was written in between is another base, and then they conflict whatever their

@@ -86,7 +86,8 @@ adding_costs =
 -- r2 and r4 are live-out, r3 is free
 abbrev pub adding_problem : Problem
 adding_problem =
-    straight_problem adding_items (general 2 ∷ general 4 ∷ []) (general 3 ∷ []) adding_costs
+    straight_problem adding_isa adding_items (general 2 ∷ general 4 ∷ []) (general 3 ∷ [])
+    adding_costs
 
 -- an item on the one unit, with its output in a register
 abbrev pub choice : ℕ → Reg → Choice
@@ -99,9 +100,9 @@ adding_schedule = choice 2 (general 4) ∷ choice 0 (general 3) ∷ choice 1 (ge
 -- Choices that break a rule: an item twice, one before the item whose output it reads, an output in
 -- a register that is neither written nor free, and one over a final value.
 pub record BreakRules : Type 0 where
-  pub twice : first_broken adding_isa adding_problem
+  pub twice : first_broken adding_problem
       (choice 0 (general 3) ∷ []) (choice 0 (general 1)) ≡ Some L1
-  pub too_early : first_broken adding_isa adding_problem [] (choice 1 (general 2)) ≡ Some L2
-  pub foreign : first_broken adding_isa adding_problem [] (choice 0 (general 5)) ≡ Some L4
-  pub over_final : first_broken adding_isa adding_problem
+  pub too_early : first_broken adding_problem [] (choice 1 (general 2)) ≡ Some L2
+  pub foreign : first_broken adding_problem [] (choice 0 (general 5)) ≡ Some L4
+  pub over_final : first_broken adding_problem
       (choice 2 (general 4) ∷ []) (choice 0 (general 4)) ≡ Some L7

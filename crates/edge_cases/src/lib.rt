@@ -6,7 +6,8 @@
 ghost use Rattle.std.specs.Prelude.{◌≡◌, [], ◌∷◌};
 ghost use Rattle.sl_model.specs.Body.{applied};
 ghost use Rattle.sl_model.specs.Lawful.{IsLawful, AreValid};
-ghost use Rattle.sl_model.specs.Legal.{IsFullLegal, body_of};
+ghost use Rattle.sl_model.specs.Graph.{body_of};
+ghost use Rattle.sl_model.specs.Legal.{IsFullLegal};
 ghost use Rattle.edge_cases.specs.Edges.{OfNothing, OfZero, OfLastAddress, OfRanges, OfWidths, OfOneItem, OfAccesses};
 ghost use Rattle.edge_cases.specs.Example.{adding_isa, adding_items, adding_problem, adding_schedule, add, general, BreakRules};
 
@@ -52,8 +53,8 @@ pub fn accesses_conflict_where_they_may_share_a_byte()
 pub fn a_legal_schedule_exists()
     ensures lawful { IsLawful adding_isa }
     ensures valid { AreValid adding_isa adding_items }
-    ensures legal { IsFullLegal adding_isa adding_problem adding_schedule }
-    ensures new_list { applied (body_of adding_problem) adding_schedule
+    ensures legal { IsFullLegal adding_problem adding_schedule }
+    ensures new_list { applied (body_of adding_problem.graph) adding_schedule
         ≡ add (general 4) (general 0) (general 0) ∷ add (general 3) (general 0) (general 0)
         ∷ add (general 2) (general 3) (general 3) ∷ [] }
     ensures broken { BreakRules }

@@ -1,8 +1,9 @@
 -- The instruction set of a lawful table is lawful.
-use Rattle.std.proofs.Common.{◌≡◌, ◌∙◌, sym, ap, subst, refl, ℕ, zero, suc, ◌≤◌, Bool, true, false, cond, List, [], ◌∷◌, length, arith}
-use Rattle.std.specs.Prelude.{nat_le, slice_get, Option, None, Some}
+use Rattle.std.proofs.Common.{◌≡◌, ◌∙◌, sym, ap, subst, refl, ℕ, ℤ, pos, zero, suc, ◌+◌, ◌*◌, ◌^◌, ◌==◌, ◌<◌, ◌≤◌, ◌+ℤ◌, ◌≤ℤ◌, Bool, true, false, cond, List, [], ◌∷◌, length, arith}
+use Rattle.std.specs.Prelude.{nat_le, nat_lt, int_le, unsigned_abs, slice_get, Option, None, Some}
 use Rattle.std.specs.List.{list_all, list_any, zip}
-use Rattle.std.proofs.lemmas.Bool.{leb-true, false≢true}
+use Rattle.std.proofs.lemmas.Bool.{leb-true, eqb-true, false≢true}
+use Rattle.std.proofs.lemmas.Int.{ints}
 use Rattle.std.proofs.lemmas.Option.{slice_get_within, same_Some}
 use Rattle.sl_model.specs.declared.register.Reg.{Reg}
 use Rattle.sl_model.specs.declared.instruction.ArchName.{ArchName}
@@ -12,14 +13,27 @@ use Rattle.sl_model.specs.Source.{outputs}
 use Rattle.sl_model.specs.Isa.{Op, op_of}
 use Rattle.sl_model.specs.Exec.{has_access, is_store}
 use Rattle.sl_model.specs.RegSets.{set_has, set_count}
-use Rattle.sl_model.specs.Lawful.{IsValid, IsLawful, fit, suits_set, zero_register}
+use Rattle.sl_model.specs.Lawful.{IsValid, IsLawful, IsBelow, are_bytes, fit, suits_set, zero_register}
+use Rattle.sl_isa.specs.declared.meaning.Width.{Width}
+use Rattle.sl_isa.specs.declared.meaning.Width.TheVariants as width
+use Rattle.sl_isa.specs.declared.meaning.Addressing.{Addressing}
+use Rattle.sl_isa.specs.declared.meaning.Addressing.TheVariants.{Kept, Before, After}
+use Rattle.sl_isa.specs.declared.meaning.Meaning.{Meaning}
+use Rattle.sl_isa.specs.declared.meaning.Meaning.TheVariants as meaning
+use Rattle.sl_isa.specs.Arch.{stored_by}
 use Rattle.form_table.specs.Rows.{row_operands}
+use Rattle.form_table.specs.Reads.{in_range, is_multiple}
+use Rattle.form_table.specs.declared.rows.Range.{Range}
 use Rattle.form_table.specs.declared.rows.Row.{Row}
-use Rattle.form_isa.specs.Info.{input_classes, output_classes, info_of, info_at}
-use Rattle.form_isa.specs.LawfulTable.{has_its_number, banks_of, are_only_of, is_lawful_row, is_lawful_table}
-use Rattle.form_isa.specs.TableIsa.{is_valid, meaning_values, row_values, table_isa}
+use Rattle.form_table.specs.declared.reader.Pick.TheVariants as pick
+use Rattle.form_table.proofs.ForCallers.{between}
+use Rattle.form_isa.specs.Access.{width_bytes, register_count, first_number, offset_by, stored_bytes, transfer_bytes}
+use Rattle.form_isa.specs.Info.{input_classes, output_classes, padded_classes, places_of, size_of, stores, info_of, info_at}
+use Rattle.form_isa.specs.LawfulTable.{banks_of, are_only_of, is_near, suits_meaning, is_lawful_row, is_lawful_table}
+use Rattle.form_isa.specs.TableIsa.{ranges, numbers_fit, takes, is_valid, meaning_values, meaning_bytes, meaning_offset, row_values, row_bytes, row_offset, table_isa}
 use Rattle.form_isa.proofs.Outputs.{banks, outputs-banks, outputs-lack_zero, padding-lacks_zero, FitBanks, fitting}
-use Rattle.form_isa.proofs.Values.{AreBounded, values-count, values-fit, banks-few}
+use Rattle.form_isa.proofs.Tests.{SuitsTransfer, suits-transfer, lawful-row}
+use Rattle.form_isa.proofs.Values.{AreBounded, values-count, values-fit, bytes-count, bytes-fit, banks-few}
 use Rattle.sl_laws.proofs.Tests.{then_parts}
 
 -- each row of a lawful table is lawful
@@ -30,21 +44,6 @@ lawful-at [] k row e at = absurd cc
 lawful-at (r ∷ rows) zero row e at =
     subst (λ v. is_lawful_row v ≡ true) (same_Some r row at) (then_parts (is_lawful_row r) (is_lawful_table rows) e).0
 lawful-at (r ∷ rows) (suc k) row e at = lawful-at rows k row (then_parts (is_lawful_row r) (is_lawful_table rows) e).1 at
-
--- what the test of a row says
-pub record IsLawfulRow (row : Row) : Type 0 where
-  pub few : length (input_classes row) ≤ 4
-  pub outputs : are_only_of (banks_of row.meaning) (output_classes row) ≡ true
-  pub number : has_its_number row.alias (row_operands row) ≡ true
-
-pub lawful-row : (row : Row) → is_lawful_row row ≡ true → IsLawfulRow row
-lawful-row row e =
-    let numbered : Bool = has_its_number row.alias (row_operands row) in
-    let one =
-    then_parts (nat_le (length (input_classes row)) 4)
-    (cond (are_only_of (banks_of row.meaning) (output_classes row)) numbered false) e in
-    let two = then_parts (are_only_of (banks_of row.meaning) (output_classes row)) numbered one.1 in
-    record { few = leb-true (length (input_classes row)) 4 one.0; outputs = two.0; number = two.1 }
 
 lawful-outputs : (row : Row) → is_lawful_row row ≡ true → are_only_of (banks_of row.meaning) (output_classes row) ≡ true
 lawful-outputs row e = (lawful-row row e).outputs
@@ -59,17 +58,16 @@ writes-banks : (table : List Row) (row : Row) (i : Instr) → is_lawful_row row 
     IsValid (table_isa Arm64 table) i → banks (outputs i) ≡ banks_of row.meaning
 unfolding table_isa info_of
 writes-banks table row i lawful at v =
-    let few : length (banks_of row.meaning) ≤ 2 = banks-few row.meaning in
-    outputs-banks 3 (banks_of row.meaning) (output_classes row) (outputs i) (lawful-outputs row lawful) (omega arith)
+    outputs-banks 3 (banks_of row.meaning) (output_classes row) (outputs i) (lawful-outputs row lawful) (banks-few row.meaning)
     (v.output_count ∙ ap (λ o. set_count (info_at o).out_sets) at)
     (subst (λ o. list_all suits_set (zip (outputs i) (info_at o).out_sets) ≡ true) at v.output_classes)
 
 -- the values of an instruction of a row
 pub values-of : (name : ArchName) (table : List Row) (i : Instr) (row : Row) (ins loaded : List ℕ) →
     slice_get table i.form ≡ Some row →
-    (table_isa name table).values (op_of i) ins loaded ≡ meaning_values row.meaning i.imms ins
+    (table_isa name table).values (op_of i) ins loaded ≡ meaning_values name row.meaning i.imms ins loaded
 unfolding table_isa
-values-of name table i row ins loaded at = ap (λ o. row_values o i.imms ins) at
+values-of name table i row ins loaded at = ap (λ o. row_values name o i.imms ins loaded) at
 
 length-banks : (regs : List Reg) → length (banks regs) ≡ length regs
 length-banks [] = refl
@@ -79,7 +77,7 @@ count-values : (table : List Row) (row : Row) (i : Instr) (ins loaded : List ℕ
     slice_get table i.form ≡ Some row →
     IsValid (table_isa Arm64 table) i → length ((table_isa Arm64 table).values (op_of i) ins loaded) ≡ length (outputs i)
 count-values table row i ins loaded known lawful at v =
-    ap length (values-of Arm64 table i row ins loaded at) ∙ (values-count row.meaning i.imms ins known
+    ap length (values-of Arm64 table i row ins loaded at) ∙ (values-count row.meaning i.imms ins loaded known
     ∙ (ap length (sym (writes-banks table row i lawful at v)) ∙ length-banks (outputs i)))
 
 fit-values : (table : List Row) (row : Row) (i : Instr) (ins loaded : List ℕ) → AreBounded → is_lawful_row row ≡ true →
@@ -88,11 +86,13 @@ fit-values : (table : List Row) (row : Row) (i : Instr) (ins loaded : List ℕ) 
     fit (table_isa Arm64 table) (outputs i) ((table_isa Arm64 table).values (op_of i) ins loaded) ≡ true
 unfolding table_isa
 fit-values table row i ins loaded known lawful at v =
-    fitting (outputs i) (row_values (slice_get table i.form) i.imms ins)
-    (subst (λ bs. FitBanks bs (row_values (slice_get table i.form) i.imms ins)) (sym (writes-banks table row i lawful at v))
-    (subst (λ o. FitBanks (banks_of row.meaning) (row_values o i.imms ins)) (sym at) (values-fit row.meaning i.imms ins known)))
+    fitting (outputs i) (row_values Arm64 (slice_get table i.form) i.imms ins loaded)
+    (subst (λ bs. FitBanks bs (row_values Arm64 (slice_get table i.form) i.imms ins loaded))
+    (sym (writes-banks table row i lawful at v))
+    (subst (λ o. FitBanks (banks_of row.meaning) (row_values Arm64 o i.imms ins loaded)) (sym at)
+    (values-fit row.meaning row i.imms ins loaded known (lawful-row row lawful).suits)))
 
--- No form writes the zero register, and none has an access.
+-- No form writes the zero register.
 lacks_zero-at : (table : List Row) (form : ℕ) → is_lawful_table table ≡ true → (o : Option Row) → slice_get table form ≡ o →
     list_any (λ set. set_has set zero_register) (info_at o).out_sets ≡ false
 unfolding info_of
@@ -100,41 +100,170 @@ lacks_zero-at table form e None at = padding-lacks_zero 3
 lacks_zero-at table form e (Some row) at =
     outputs-lack_zero 3 (banks_of row.meaning) (output_classes row) (lawful-outputs row (lawful-at table form row e at))
 
-no-size : (o : Option Row) → (info_at o).size ≡ 0
-unfolding info_of
-no-size None = refl
-no-size (Some row) = refl
+-- An access is small.
+size-small : (m : Meaning) → size_of m ≤ 32
+size-small (meaning.Scalar op size) = omega arith
+size-small (meaning.Vector op) = omega arith
+size-small (meaning.Memory t) = transfer-small t.pair t.width
+  where
+    transfer-small : (pair : Bool) (w : Width) → register_count pair * width_bytes w ≤ 32
+    transfer-small true width.Byte = omega arith
+    transfer-small true width.Half = omega arith
+    transfer-small true width.Word = omega arith
+    transfer-small true width.Double = omega arith
+    transfer-small true width.Quad = omega arith
+    transfer-small false width.Byte = omega arith
+    transfer-small false width.Half = omega arith
+    transfer-small false width.Word = omega arith
+    transfer-small false width.Double = omega arith
+    transfer-small false width.Quad = omega arith
 
--- no row accesses memory
-pub no-access : (o : Option Row) → has_access (info_at o) ≡ false
+sizes-small : (o : Option Row) → (info_at o).size ≤ 32
 unfolding info_of
-no-access None = refl
-no-access (Some row) = refl
+sizes-small None = omega arith
+sizes-small (Some row) = size-small row.meaning
 
-no-store : (o : Option Row) → is_store (info_at o) ≡ false
+-- Its base is an operand.
+none-smaller : nat_lt 0 0 ≡ true → ⊥
+none-smaller e = false≢true e
+
+meaning-base : (m : Meaning) (row : Row) → suits_meaning m row ≡ true → nat_lt 0 (size_of m) ≡ true →
+    IsBelow (slice_get (places_of pick.Base 0 (row_operands row)) 0) (set_count (padded_classes 4 (input_classes row)))
+meaning-base (meaning.Scalar op size) row e some = absurd (none-smaller some)
+meaning-base (meaning.Vector op) row e some = absurd (none-smaller some)
+meaning-base (meaning.Memory t) row e some =
+    let s : SuitsTransfer t row = suits-transfer t row e in
+    subst (λ places. IsBelow (slice_get places 0) (set_count (padded_classes 4 (input_classes row)))) (sym s.base) s.input
+
+has-base : (table : List Row) (form : ℕ) → is_lawful_table table ≡ true → (o : Option Row) → slice_get table form ≡ o →
+    has_access (info_at o) ≡ true → IsBelow (info_at o).base (set_count (info_at o).in_sets)
 unfolding info_of
-no-store None = refl
-no-store (Some row) = refl
+has-base table form e None at some = absurd (none-smaller some)
+has-base table form e (Some row) at some =
+    meaning-base row.meaning row (lawful-row row (lawful-at table form row e at)).suits some
 
-clash : (b : Bool) → b ≡ false → b ≡ true → ⊥
-clash b e f = false≢true (sym e ∙ f)
+-- Its offset is small.
+record IsNear (n : ℤ) : Type 0 where
+  low : pos 0 ≤ℤ (n +ℤ pos (2 ^ 20))
+  high : n ≤ℤ pos (2 ^ 20)
+
+zero-near : IsNear (pos 0)
+zero-near = record { low = omega arith; high = omega arith }
+
+within : (n : ℤ) → unsigned_abs n < 2 ^ 20 + 1 → IsNear n
+within n small = record { low = omega (arith, ints, small); high = omega (arith, ints, small) }
+
+above : (n : ℕ) → nat_le n (2 ^ 20) ≡ true → n < 2 ^ 20 + 1
+above n e = let few : n ≤ 2 ^ 20 = leb-true n (2 ^ 20) e in omega (arith, few)
+
+range-near : (range : Range) (rest : List Range) (n : ℤ) → is_near (range ∷ rest) ≡ true → in_range range n ≡ true → IsNear n
+unfolding in_range
+range-near range rest n e f =
+    let near = then_parts (nat_le (unsigned_abs range.least) (2 ^ 20)) (nat_le (unsigned_abs range.most) (2 ^ 20)) e in
+    let low = then_parts (int_le range.least n) (cond (int_le n range.most) (is_multiple range.step (unsigned_abs n)) false) f in
+    let high = then_parts (int_le n range.most) (is_multiple range.step (unsigned_abs n)) low.1 in
+    within n (between range.least range.most n (2 ^ 20 + 1) low.0 high.0 (above _ near.0) (above _ near.1))
+
+numbers-near : (ranges : List Range) (imms : List ℤ) → is_near ranges ≡ true → numbers_fit ranges imms ≡ true →
+    IsNear (first_number imms)
+unfolding numbers_fit
+numbers-near ranges [] e f = zero-near
+numbers-near [] (n ∷ imms) e f =
+    zero-is n (eqb-true (unsigned_abs n) 0 (then_parts (unsigned_abs n == 0) (numbers_fit [] imms) f).0)
+  where
+    zero-is : (n : ℤ) → unsigned_abs n ≡ 0 → IsNear n
+    zero-is n e = record { low = omega (arith, ints, e); high = omega (arith, ints, e) }
+numbers-near (range ∷ ranges) (n ∷ imms) e f =
+    range-near range ranges n e (then_parts (in_range range n) (numbers_fit ranges imms) f).0
+
+addressed-near : (addressing : Addressing) (imms : List ℤ) → IsNear (first_number imms) → IsNear (offset_by addressing imms)
+addressed-near Kept imms near = near
+addressed-near Before imms near = near
+addressed-near After imms near = zero-near
+
+meaning-near : (m : Meaning) (row : Row) (imms : List ℤ) → suits_meaning m row ≡ true →
+    numbers_fit (ranges (row_operands row)) imms ≡ true → IsNear (meaning_offset m imms)
+meaning-near (meaning.Scalar op size) row imms e fits = zero-near
+meaning-near (meaning.Vector op) row imms e fits = zero-near
+meaning-near (meaning.Memory t) row imms e fits =
+    addressed-near t.addressing imms (numbers-near (ranges (row_operands row)) imms (suits-transfer t row e).near fits)
+
+numbers-taken : (row : Row) (o : Op) → is_valid (Some row) o ≡ true → numbers_fit (ranges (row_operands row)) o.imms ≡ true
+unfolding takes
+numbers-taken row o e = (then_parts (numbers_fit (ranges (row_operands row)) o.imms) _ (not-wide o.wide _ e)).0
+  where
+    not-wide : (wide taken : Bool) → cond wide false taken ≡ true → taken ≡ true
+    not-wide true taken e = absurd (false≢true e)
+    not-wide false taken e = e
+
+offset-near : (table : List Row) (op : Op) → is_lawful_table table ≡ true → (o : Option Row) → slice_get table op.form ≡ o →
+    is_valid o op ≡ true → IsNear (row_offset o op.imms)
+offset-near table op e None at v = absurd (false≢true v)
+offset-near table op e (Some row) at v =
+    meaning-near row.meaning row op.imms (lawful-row row (lawful-at table op.form row e at)).suits (numbers-taken row op v)
+
+-- It stores as many bytes as it has.
+row-stores : (o : Option Row) (ins : List ℕ) → is_store (info_at o) ≡ true → length (row_bytes o ins) ≡ (info_at o).size
+unfolding info_of
+row-stores None ins e = absurd (false≢true e)
+row-stores (Some row) ins e =
+    bytes-count row.meaning ins (then_parts (nat_lt 0 (size_of row.meaning)) (stores row.meaning) e).1
+
+row-bytes : (o : Option Row) (ins : List ℕ) → are_bytes (row_bytes o ins) ≡ true
+row-bytes None ins = refl
+row-bytes (Some row) ins = bytes-fit row.meaning ins
 
 pub table-lawful : (table : List Row) → AreBounded → is_lawful_table table ≡ true → IsLawful (table_isa Arm64 table)
 unfolding table_isa
 table-lawful table known e = record {
   known = λ o v. let form = known-form (slice_get table o.form) o v in slice_get_within table o.form form.0 form.1;
-  sizes = λ form. let none : (info_at (slice_get table form)).size ≡ 0 = no-size (slice_get table form) in omega arith;
-  offset_low = λ o v. omega arith;
-  offset_high = λ o v. omega arith;
+  sizes = λ form. sizes-small (slice_get table form);
+  offset_low = λ o v. (offset-near table o e (slice_get table o.form) refl v).low;
+  offset_high = λ o v. (offset-near table o e (slice_get table o.form) refl v).high;
   writable = λ form. lacks_zero-at table form e (slice_get table form) refl;
-  base = λ form access. absurd (clash (has_access (info_at (slice_get table form))) (no-access (slice_get table form)) access);
+  base = λ form access. has-base table form e (slice_get table form) refl access;
   value_count = λ i ins loaded v same some.
       let form = known-form (slice_get table i.form) (op_of i) v.op in
       count-values table form.0 i ins loaded known (lawful-at table i.form form.0 e form.1) form.1 v;
   values_fit = λ i ins loaded v same some fits bytes.
       let form = known-form (slice_get table i.form) (op_of i) v.op in
       fit-values table form.0 i ins loaded known (lawful-at table i.form form.0 e form.1) form.1 v;
-  stored_count =
-      λ i ins v store same. absurd (clash (is_store (info_at (slice_get table i.form))) (no-store (slice_get table i.form)) store);
-  stored_fit = λ i ins v store same. refl;
+  stored_count = λ i ins v store same. row-stores (slice_get table i.form) ins store;
+  stored_fit = λ i ins v store same. row-bytes (slice_get table i.form) ins;
 }
+
+-- What isn't a store stores no bytes.
+some-size : (pair : Bool) (w : Width) → nat_lt 0 (register_count pair * width_bytes w) ≡ true
+some-size true width.Byte = refl
+some-size true width.Half = refl
+some-size true width.Word = refl
+some-size true width.Double = refl
+some-size true width.Quad = refl
+some-size false width.Byte = refl
+some-size false width.Half = refl
+some-size false width.Word = refl
+some-size false width.Double = refl
+some-size false width.Quad = refl
+
+twice : (b : Bool) (bytes : List ℕ) → cond b (cond b bytes []) [] ≡ cond b bytes []
+twice true bytes = refl
+twice false bytes = refl
+
+meaning-stored : (m : Meaning) (ins : List ℕ) →
+    cond (cond (nat_lt 0 (size_of m)) (stores m) false) (meaning_bytes m ins) [] ≡ meaning_bytes m ins
+unfolding transfer_bytes
+meaning-stored (meaning.Scalar op size) ins = refl
+meaning-stored (meaning.Vector op) ins = refl
+meaning-stored (meaning.Memory t) ins =
+    ap (λ b. cond (cond b t.store false) (transfer_bytes t ins) []) (some-size t.pair t.width)
+    ∙ twice t.store (stored_bytes t.pair (width_bytes t.width) ins)
+
+row-stored : (o : Option Row) (ins : List ℕ) → cond (is_store (info_at o)) (row_bytes o ins) [] ≡ row_bytes o ins
+unfolding info_of
+row-stored None ins = refl
+row-stored (Some row) ins = meaning-stored row.meaning ins
+
+pub stored_is : (name : ArchName) (table : List Row) (i : Instr) (ins : List ℕ) →
+    stored_by (table_isa name table) i ins ≡ row_bytes (slice_get table i.form) ins
+unfolding table_isa stored_by
+stored_is name table i ins = row-stored (slice_get table i.form) ins

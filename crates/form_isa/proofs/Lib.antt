@@ -1,7 +1,11 @@
 pub mod ForCallers
 pub mod Padded
+pub mod Addresses
+pub mod Stored
 pub mod Banks
 pub mod Outputs
+pub mod AccessValues
+pub mod Tests
 pub mod Values
 pub mod Lawful
 pub mod Places

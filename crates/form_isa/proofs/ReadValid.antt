@@ -22,10 +22,11 @@ use Rattle.form_table.specs.declared.rows.Row.{Row}
 use Rattle.form_table.specs.declared.spells.Held.{Held}
 use Rattle.form_table.specs.declared.reader.Pick.TheVariants as pick
 use Rattle.form_table.proofs.ForCallers.{IsReadBy, Shaped, filled_shaped, form_of, not_refused, read_kept, same_Ok, operands_machine, outputs_machine}
-use Rattle.form_isa.specs.Info.{classes, input_classes, output_classes, padded_classes, ties, padded_ties, info_of, info_at}
+use Rattle.form_isa.specs.Info.{classes, input_classes, output_classes, padded_classes, all_ties, padded_ties, info_of, info_at}
 use Rattle.form_isa.specs.LawfulTable.{banks_of, is_lawful_row, is_lawful_table}
 use Rattle.form_isa.specs.TableIsa.{last_number, is_kept, takes, is_valid, table_isa}
-use Rattle.form_isa.proofs.Lawful.{IsLawfulRow, lawful-row, lawful-at}
+use Rattle.form_isa.proofs.Tests.{IsLawfulRow, lawful-row}
+use Rattle.form_isa.proofs.Lawful.{lawful-at}
 use Rattle.form_isa.proofs.Alone.{kept-alone}
 use Rattle.form_isa.proofs.Numbers.{three, three-fits}
 use Rattle.form_isa.proofs.Outputs.{only-count}
@@ -96,7 +97,7 @@ has-regs form row helds lawful own =
     of-count (written_regs row helds) (output_classes row) written in
     let banks : length (banks_of row.meaning) ≡ length (output_classes row) =
     only-count (banks_of row.meaning) (output_classes row) lawful.outputs in
-    let two : length (banks_of row.meaning) ≤ 2 = banks-few row.meaning in
+    let three : length (banks_of row.meaning) ≤ 3 = banks-few row.meaning in
     let four : length (input_classes row) ≤ 4 = lawful.few in
     record {
       read = read;
@@ -163,7 +164,7 @@ unfolding info_of
 tied-outputs row helds i own has =
     let read : length (picked pick.Read (row_operands row) helds) ≡ length (classes pick.Read (row_operands row)) =
     of-count _ _ (picked-of pick.Read (row_operands row) helds own.shaped own.registers) in
-    let places = padded_ties 3 (ties (length (classes pick.Read (row_operands row))) (row_operands row)) in
+    let places = padded_ties 3 (all_ties (row_operands row)) in
     subst (λ ins. list_all (is_tied_to ins) (zip (outputs i) places) ≡ true) (sym (read-back row helds i has))
     (subst (λ outs. list_all (is_tied_to (read_regs row helds)) (zip outs places) ≡ true) (sym (written-back row helds i has))
     (row-tied row helds 3 own.shaped read))

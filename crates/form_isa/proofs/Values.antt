@@ -2,6 +2,8 @@
 use Rattle.std.proofs.Common.{◌≡◌, ◌∙◌, sym, refl, ℕ, ◌<◌, ◌≤◌, ◌^◌, true, false, List, [], ◌∷◌, length, slice_index, arith}
 use Rattle.std.specs.Prelude.{ℤ}
 use Rattle.sl_model.specs.declared.register.Bank.TheVariants.{General, Flags}
+use Rattle.sl_model.specs.declared.instruction.ArchName.TheVariants.{Arm64}
+use Rattle.sl_model.specs.Lawful.{are_bytes}
 use Rattle.sl_isa.specs.declared.meaning.Lane.{Lane}
 use Rattle.sl_isa.specs.declared.meaning.Size.{Size}
 use Rattle.sl_isa.specs.declared.meaning.Scalar.{Scalar}
@@ -12,9 +14,13 @@ use Rattle.sl_isa.specs.declared.meaning.Meaning.{Meaning}
 use Rattle.sl_isa.specs.declared.meaning.Meaning.TheVariants as meaning
 use Rattle.scalar_ops.specs.Scalar.{bits_of, scalar_values, output_count}
 use Rattle.lane_ops.specs.Vector.{vector_value}
-use Rattle.form_isa.specs.LawfulTable.{scalar_banks, vector_banks, banks_of}
-use Rattle.form_isa.specs.TableIsa.{meaning_values}
+use Rattle.form_table.specs.declared.rows.Row.{Row}
+use Rattle.form_isa.specs.Info.{size_of, stores}
+use Rattle.form_isa.specs.LawfulTable.{scalar_banks, vector_banks, banks_of, suits_meaning}
+use Rattle.form_isa.specs.TableIsa.{meaning_values, meaning_bytes}
 use Rattle.form_isa.proofs.Outputs.{FitBanks}
+use Rattle.form_isa.proofs.AccessValues.{transfer-fit, transfer-count, transfer-few, transfer_bytes-count, transfer_bytes-fit}
+use Rattle.form_isa.proofs.Tests.{suits-transfer}
 
 -- what is known of the values of instructions
 pub record AreBounded : Type 0 where
@@ -36,23 +42,25 @@ vector-count : (op : Vector) → length (vector_banks op) ≡ 1
 vector-count (vector.MoveOut lane) = refl
 vector-count _ = refl
 
-pub values-count : (m : Meaning) (imms : List ℤ) (ins : List ℕ) → AreBounded →
-    length (meaning_values m imms ins) ≡ length (banks_of m)
-values-count (meaning.Scalar op size) imms ins known = known.count op size imms ins ∙ scalar-count op
-values-count (meaning.Vector op) imms ins known = sym (vector-count op)
+pub values-count : (m : Meaning) (imms : List ℤ) (ins loaded : List ℕ) → AreBounded →
+    length (meaning_values Arm64 m imms ins loaded) ≡ length (banks_of m)
+values-count (meaning.Scalar op size) imms ins loaded known = known.count op size imms ins ∙ scalar-count op
+values-count (meaning.Vector op) imms ins loaded known = sym (vector-count op)
+values-count (meaning.Memory t) imms ins loaded known = transfer-count t imms ins loaded
 
-scalar-few : (op : Scalar) → length (scalar_banks op) ≤ 2
+scalar-few : (op : Scalar) → length (scalar_banks op) ≤ 3
 scalar-few (scalar.Sum minus second carries true) = omega arith
 scalar-few _ = omega arith
 
-vector-few : (op : Vector) → length (vector_banks op) ≤ 2
+vector-few : (op : Vector) → length (vector_banks op) ≤ 3
 vector-few (vector.MoveOut lane) = omega arith
 vector-few _ = omega arith
 
--- A meaning has at most two outputs.
-pub banks-few : (m : Meaning) → length (banks_of m) ≤ 2
+-- A meaning has at most three outputs.
+pub banks-few : (m : Meaning) → length (banks_of m) ≤ 3
 banks-few (meaning.Scalar op size) = scalar-few op
 banks-few (meaning.Vector op) = vector-few op
+banks-few (meaning.Memory t) = transfer-few t
 
 fit_one : (values : List ℕ) → slice_index values 0 < 2 ^ 64 → FitBanks (General ∷ []) values
 fit_one [] h = tt
@@ -73,7 +81,21 @@ vector-fits : (op : Vector) (imms : List ℤ) (ins : List ℕ) → AreBounded �
 vector-fits (vector.MoveOut lane) imms ins known = (known.moved_out lane imms ins, tt)
 vector-fits op imms ins known = (known.whole op imms ins, tt)
 
-pub values-fit : (m : Meaning) (imms : List ℤ) (ins : List ℕ) → AreBounded → FitBanks (banks_of m) (meaning_values m imms ins)
-values-fit (meaning.Scalar op size) imms ins known =
+pub values-fit : (m : Meaning) (row : Row) (imms : List ℤ) (ins loaded : List ℕ) → AreBounded → suits_meaning m row ≡ true →
+    FitBanks (banks_of m) (meaning_values Arm64 m imms ins loaded)
+values-fit (meaning.Scalar op size) row imms ins loaded known e =
     scalar-fits op _ (known.result op size imms ins) (known.flags op size imms ins)
-values-fit (meaning.Vector op) imms ins known = vector-fits op imms ins known
+values-fit (meaning.Vector op) row imms ins loaded known e = vector-fits op imms ins known
+values-fit (meaning.Memory t) row imms ins loaded known e =
+    transfer-fit t imms ins loaded (suits-transfer t row e).room
+
+-- What a meaning stores is as many bytes as its access has.
+pub bytes-count : (m : Meaning) (ins : List ℕ) → stores m ≡ true → length (meaning_bytes m ins) ≡ size_of m
+bytes-count (meaning.Scalar op size) ins e = refl
+bytes-count (meaning.Vector op) ins e = refl
+bytes-count (meaning.Memory t) ins e = transfer_bytes-count t ins e
+
+pub bytes-fit : (m : Meaning) (ins : List ℕ) → are_bytes (meaning_bytes m ins) ≡ true
+bytes-fit (meaning.Scalar op size) ins = refl
+bytes-fit (meaning.Vector op) ins = refl
+bytes-fit (meaning.Memory t) ins = transfer_bytes-fit t ins

@@ -1,8 +1,10 @@
--- What a row says of its form: the registers of its operands and outputs, and which outputs are
--- tied. No row accesses memory yet. Source: this project's own format.
-use Rattle.std.specs.Prelude.{ℕ, ◌+◌, ◌^◌, Bool, true, false, zero, suc, List, [], ◌∷◌, ◌++◌, length, Option, None, Some, if◌then◌else◌}
+-- What a row says of its form: the registers of its operands and outputs, which outputs are
+-- tied, and its access. Source: this project's own format.
+use Rattle.std.specs.Prelude.{ℕ, ◌+◌, ◌^◌, Bool, true, false, zero, suc, List, [], ◌∷◌, ◌++◌, length, map, slice_get, Option, None, Some, if◌then◌else◌}
 use Rattle.sl_model.specs.declared.register.RegSet.{RegSet}
 use Rattle.sl_model.specs.declared.instruction.FormInfo.{FormInfo}
+use Rattle.sl_isa.specs.declared.meaning.Meaning.{Meaning}
+use Rattle.sl_isa.specs.declared.meaning.Meaning.TheVariants as meaning
 use Rattle.form_table.specs.Rows.{row_operands}
 use Rattle.form_table.specs.Reads.{is_picked}
 use Rattle.form_table.specs.Printed.{has_register}
@@ -10,6 +12,7 @@ use Rattle.form_table.specs.declared.rows.Operand.{Operand}
 use Rattle.form_table.specs.declared.rows.Row.{Row}
 use Rattle.form_table.specs.declared.reader.Pick.{Pick}
 use Rattle.form_table.specs.declared.reader.Pick.TheVariants as pick
+use Rattle.form_isa.specs.Access.{transfer_size}
 
 -- the class of no register
 abbrev pub no_register : RegSet
@@ -59,6 +62,37 @@ ties next (operand ∷ operands) =
     if is_taken pick.Tied operand then Some next ∷ ties (next + 1) operands
     else (if is_taken pick.Written operand then None ∷ ties next operands else ties next operands)
 
+-- the places of operands whose roles are picked, counted among the inputs from a place on
+unfoldable pub places_of : Pick → ℕ → List Operand → List ℕ
+places_of which place [] = []
+places_of which place (operand ∷ operands) =
+    if is_taken which operand then place ∷ places_of which (place + 1) operands
+    else (if is_taken pick.Read operand then places_of which (place + 1) operands
+    else places_of which place operands)
+
+-- the inputs that all outputs are tied to: a base that is written back stands behind the others
+unfoldable pub all_ties : List Operand → List (Option ℕ)
+all_ties operands =
+    ties (length (classes pick.Read operands)) operands
+    ++ map (λ place. Some place) (places_of pick.Back 0 operands)
+
+-- the place of a written-back base among the outputs, where so many are written before it
+abbrev pub back_place : List RegSet → ℕ → Option ℕ
+back_place [] written = None
+back_place (set ∷ sets) written = Some written
+
+-- the bytes of the access of a meaning
+abbrev pub size_of : Meaning → ℕ
+size_of (meaning.Scalar op size) = 0
+size_of (meaning.Vector op) = 0
+size_of (meaning.Memory transfer) = transfer_size transfer
+
+-- Does a meaning store?
+abbrev pub stores : Meaning → Bool
+stores (meaning.Scalar op size) = false
+stores (meaning.Vector op) = false
+stores (meaning.Memory transfer) = transfer.store
+
 -- ties of so many outputs, where the last ones have none
 unfoldable pub padded_ties : ℕ → List (Option ℕ) → List (Option ℕ)
 padded_ties zero places = []
@@ -71,11 +105,13 @@ info_of row = record {
   class = row.class;
   in_sets = padded_classes 4 (input_classes row);
   out_sets = padded_classes 3 (output_classes row);
-  tied = padded_ties 3 (ties (length (classes pick.Read (row_operands row))) (row_operands row));
-  back = None;
-  base = None;
-  store = false;
-  size = 0;
+  tied = padded_ties 3 (all_ties (row_operands row));
+  back =
+      back_place (classes pick.Back (row_operands row))
+      (length (classes pick.Written (row_operands row)));
+  base = slice_get (places_of pick.Base 0 (row_operands row)) 0;
+  store = stores row.meaning;
+  size = size_of row.meaning;
 }
 
 -- and of a form that isn't there

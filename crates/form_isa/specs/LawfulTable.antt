@@ -1,24 +1,33 @@
 -- Tests of tables, which the checker computes: a row writes what its meaning gives, and its
 -- instructions are known by their numbers. Source: this project's own.
-use Rattle.std.specs.Prelude.{ℕ, ◌*◌, ◌==◌, ◌%◌, ◌/◌, ◌^◌, Bool, true, false, zero, suc, not, List, [], ◌∷◌, length, nat_le, if◌then◌else◌}
+use Rattle.std.specs.Prelude.{ℕ, ◌*◌, ◌==◌, ◌%◌, ◌/◌, ◌^◌, Bool, true, false, zero, suc, not, unsigned_abs, List, [], ◌∷◌, ◌++◌, length, nat_le, nat_lt, if◌then◌else◌}
+use Rattle.std.specs.Str.{bytes_eq}
 use Rattle.sl_model.specs.declared.register.Bank.{Bank}
 use Rattle.sl_model.specs.declared.register.Bank.TheVariants as bank
 use Rattle.sl_model.specs.declared.register.RegSet.{RegSet}
+use Rattle.sl_model.specs.declared.instruction.ArchName.TheVariants.{Arm64}
+use Rattle.sl_model.specs.Machine.{limit_of}
+use Rattle.sl_model.specs.RegSets.{set_count}
 use Rattle.sl_model.specs.Lawful.{bank_bits}
 use Rattle.sl_isa.specs.declared.meaning.Scalar.{Scalar}
 use Rattle.sl_isa.specs.declared.meaning.Scalar.TheVariants as scalar
 use Rattle.sl_isa.specs.declared.meaning.Vector.{Vector}
 use Rattle.sl_isa.specs.declared.meaning.Vector.TheVariants as vector
+use Rattle.sl_isa.specs.declared.meaning.Addressing.{Addressing}
+use Rattle.sl_isa.specs.declared.meaning.Transfer.{Transfer}
 use Rattle.sl_isa.specs.declared.meaning.Meaning.{Meaning}
 use Rattle.sl_isa.specs.declared.meaning.Meaning.TheVariants as meaning
 use Rattle.form_table.specs.Rows.{row_operands}
 use Rattle.form_table.specs.Printed.{has_number}
+use Rattle.form_table.specs.declared.rows.Range.{Range}
 use Rattle.form_table.specs.declared.rows.Operand.{Operand}
 use Rattle.form_table.specs.declared.rows.Alias.{Alias}
 use Rattle.form_table.specs.declared.rows.Alias.TheVariants as alias
 use Rattle.form_table.specs.declared.rows.Row.{Row}
+use Rattle.form_table.specs.declared.reader.Pick.TheVariants as pick
+use Rattle.form_isa.specs.Access.{width_bytes, base_place, writes_back}
+use Rattle.form_isa.specs.Info.{classes, input_classes, output_classes, padded_classes, places_of}
 use Rattle.form_isa.specs.TableIsa.{ranges}
-use Rattle.form_isa.specs.Info.{input_classes, output_classes}
 
 -- the banks of the outputs of a scalar meaning
 abbrev pub scalar_banks : Scalar → List Bank
@@ -30,10 +39,25 @@ abbrev pub vector_banks : Vector → List Bank
 vector_banks (vector.MoveOut lane) = bank.General ∷ []
 vector_banks _ = bank.Vector ∷ []
 
+-- the banks of what an access loads
+abbrev pub loaded_banks : Bool → Bank → List Bank
+loaded_banks false b = b ∷ []
+loaded_banks true b = b ∷ b ∷ []
+
+-- the bank of a base that is written back
+abbrev pub base_banks : Addressing → List Bank
+base_banks addressing = if writes_back addressing then bank.General ∷ [] else []
+
+-- the banks of the outputs of an access
+abbrev pub transfer_banks : Transfer → List Bank
+transfer_banks t =
+    (if t.store then [] else loaded_banks t.pair t.bank) ++ base_banks t.addressing
+
 -- the banks of the outputs of a meaning
 abbrev pub banks_of : Meaning → List Bank
 banks_of (meaning.Scalar op size) = scalar_banks op
 banks_of (meaning.Vector op) = vector_banks op
+banks_of (meaning.Memory t) = transfer_banks t
 
 -- Are all registers of a set of a bank, and none of them the zero register?
 abbrev pub are_of : Bank → RegSet → Bool
@@ -70,13 +94,64 @@ has_its_number (alias.Repeat form) operands = true
 has_its_number (alias.ZeroAs form place) operands =
     if nat_le (length (ranges operands)) 3 then is_last_number place operands else false
 
--- Is a row lawful: it has at most four inputs, writes what its meaning gives, and tells its own
--- instructions by their numbers?
+-- Do registers of a bank take numbers of so many bytes?
+abbrev pub has_room : Bank → ℕ → Bool
+has_room b bytes = nat_le (2 ^ (8 * bytes)) (limit_of Arm64 b)
+
+-- Is the first of the numbers that operands take within 2 ^ 20 of 0, if there is one?
+abbrev pub is_near : List Range → Bool
+is_near [] = true
+is_near (range ∷ ranges) =
+    if nat_le (unsigned_abs range.least) (2 ^ 20)
+    then nat_le (unsigned_abs range.most) (2 ^ 20)
+    else false
+
+-- Has a row an input at a place?
+abbrev pub has_input : Row → ℕ → Bool
+has_input row place = nat_lt place (set_count (padded_classes 4 (input_classes row)))
+
+-- Have a row's operands one base, behind as many others that are read as its place says?
+abbrev pub has_base : Transfer → Row → Bool
+has_base t row =
+    if bytes_eq (places_of pick.Base 0 (row_operands row)) (base_place t ∷ []) then
+    (if length (classes pick.Data (row_operands row)) == base_place t
+    then has_input row (base_place t)
+    else false)
+    else false
+
+-- the places of bases that an access writes back
+abbrev pub back_places : Transfer → List ℕ
+back_places t = if writes_back t.addressing then base_place t ∷ [] else []
+
+-- Has a row the base of an access, does it write it back as the access says, and
+-- suit its registers and its offsets?
+abbrev pub suits_transfer : Transfer → Row → Bool
+suits_transfer t row =
+    if has_base t row then
+    (if bytes_eq (places_of pick.Back 0 (row_operands row)) (back_places t) then
+    (if has_room t.bank (width_bytes t.width) then is_near (ranges (row_operands row)) else false)
+    else false)
+    else false
+
+-- Has it no base?
+abbrev pub lacks_base : Row → Bool
+lacks_base row = length (classes pick.Base (row_operands row)) == 0
+
+-- Has a row a base exactly where its meaning is an access, and one that suits it?
+abbrev pub suits_meaning : Meaning → Row → Bool
+suits_meaning (meaning.Scalar op size) row = lacks_base row
+suits_meaning (meaning.Vector op) row = lacks_base row
+suits_meaning (meaning.Memory t) row = suits_transfer t row
+
+-- Is a row lawful: it has at most four inputs, writes what its meaning gives, has a base
+-- where that is an access, and tells its own instructions by their numbers?
 abbrev pub is_lawful_row : Row → Bool
 is_lawful_row row =
     if nat_le (length (input_classes row)) 4 then
-    (if are_only_of (banks_of row.meaning) (output_classes row)
+    (if are_only_of (banks_of row.meaning) (output_classes row) then
+    (if suits_meaning row.meaning row
     then has_its_number row.alias (row_operands row)
+    else false)
     else false)
     else false
 

@@ -1,3 +1,4 @@
+pub mod Access
 pub mod Info
 pub mod TableIsa
 pub mod LawfulTable

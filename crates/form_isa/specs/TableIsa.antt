@@ -4,7 +4,11 @@ use Rattle.std.specs.Prelude.{ℕ, ℤ, pos, ◌==◌, ◌-◌, Bool, true, fals
 use Rattle.sl_model.specs.declared.instruction.ArchName.{ArchName}
 use Rattle.sl_model.specs.declared.register.Reg.{Reg}
 use Rattle.sl_model.specs.declared.instruction.Instr.{Instr}
-use Rattle.sl_model.specs.Isa.{Isa, Op}
+use Rattle.sl_model.specs.declared.instruction.FormInfo.{FormInfo}
+use Rattle.sl_model.specs.declared.instruction.Access.{Access}
+use Rattle.sl_model.specs.Isa.{Isa, Op, address_at}
+use Rattle.sl_model.specs.Exec.{base_value, has_access}
+use Rattle.sl_model.specs.Machine.{space_of}
 use Rattle.sl_isa.specs.declared.meaning.Meaning.{Meaning}
 use Rattle.sl_isa.specs.declared.meaning.Meaning.TheVariants as meaning
 use Rattle.scalar_ops.specs.Scalar.{bits_of, scalar_values}
@@ -17,6 +21,7 @@ use Rattle.form_table.specs.declared.rows.Operand.{Operand}
 use Rattle.form_table.specs.declared.rows.Alias.{Alias}
 use Rattle.form_table.specs.declared.rows.Alias.TheVariants as alias
 use Rattle.form_table.specs.declared.rows.Row.{Row}
+use Rattle.form_isa.specs.Access.{offset_by, transfer_values, transfer_bytes}
 use Rattle.form_isa.specs.Info.{info_at}
 use Rattle.sl_isa.specs.declared.arch.CounterOp.{CounterOp}
 use Rattle.sl_isa.specs.Language.{Language}
@@ -59,26 +64,62 @@ abbrev pub is_valid : Option Row → Op → Bool
 is_valid None o = false
 is_valid (Some row) o = if o.wide then false else takes row o.imms
 
--- the values of the outputs
-abbrev pub meaning_values : Meaning → List ℤ → List ℕ → List ℕ
-meaning_values (meaning.Scalar op size) imms ins = scalar_values op (bits_of size) imms ins
-meaning_values (meaning.Vector op) imms ins = vector_value op imms ins ∷ []
+-- the values of the outputs, where bytes were loaded
+abbrev pub meaning_values : ArchName → Meaning → List ℤ → List ℕ → List ℕ → List ℕ
+meaning_values name (meaning.Scalar op size) imms ins loaded =
+    scalar_values op (bits_of size) imms ins
+meaning_values name (meaning.Vector op) imms ins loaded = vector_value op imms ins ∷ []
+meaning_values name (meaning.Memory transfer) imms ins loaded =
+    transfer_values (space_of name) transfer imms ins loaded
+
+-- the bytes that are stored
+abbrev pub meaning_bytes : Meaning → List ℕ → List ℕ
+meaning_bytes (meaning.Scalar op size) ins = []
+meaning_bytes (meaning.Vector op) ins = []
+meaning_bytes (meaning.Memory transfer) ins = transfer_bytes transfer ins
+
+-- the offset of an access
+abbrev pub meaning_offset : Meaning → List ℤ → ℤ
+meaning_offset (meaning.Scalar op size) imms = pos 0
+meaning_offset (meaning.Vector op) imms = pos 0
+meaning_offset (meaning.Memory transfer) imms = offset_by transfer.addressing imms
 
 -- the values of the outputs by a row, if there is one
-abbrev pub row_values : Option Row → List ℤ → List ℕ → List ℕ
-row_values None imms ins = []
-row_values (Some row) imms ins = meaning_values row.meaning imms ins
+abbrev pub row_values : ArchName → Option Row → List ℤ → List ℕ → List ℕ → List ℕ
+row_values name None imms ins loaded = []
+row_values name (Some row) imms ins loaded = meaning_values name row.meaning imms ins loaded
 
--- the instruction set of a table, without accesses
+-- the bytes that are stored by it
+abbrev pub row_bytes : Option Row → List ℕ → List ℕ
+row_bytes None ins = []
+row_bytes (Some row) ins = meaning_bytes row.meaning ins
+
+-- the offset of its access
+abbrev pub row_offset : Option Row → List ℤ → ℤ
+row_offset None imms = pos 0
+row_offset (Some row) imms = meaning_offset row.meaning imms
+
+-- the access of an instruction of a form, with an offset and where its operands have these values
+abbrev pub access_by : ArchName → FormInfo → ℤ → List ℕ → Option Access
+access_by name info offset ins =
+    if has_access info then
+    Some (record {
+      store = info.store;
+      address = address_at (space_of name) (base_value info.base ins) offset;
+      size = info.size;
+    })
+    else None
+
+-- the instruction set of a table
 unfoldable pub table_isa : ArchName → List Row → Isa
 table_isa name table = record {
   name = name;
   forms = length table;
   valid = λ o. is_valid (slice_get table o.form) o;
   info = λ form. info_at (slice_get table form);
-  offset = λ o. pos 0;
-  values = λ o ins loaded. row_values (slice_get table o.form) o.imms ins;
-  stored = λ o ins. [];
+  offset = λ o. row_offset (slice_get table o.form) o.imms;
+  values = λ o ins loaded. row_values name (slice_get table o.form) o.imms ins loaded;
+  stored = λ o ins. row_bytes (slice_get table o.form) ins;
 }
 
 -- the language of a table: its instruction set, whose instructions are read and printed by its

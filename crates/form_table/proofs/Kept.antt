@@ -1,14 +1,14 @@
 -- The row under which a spelling is kept takes what its alias leaves, and keeps it.
-use Rattle.std.proofs.Common.{◌≡◌, ◌∙◌, sym, ap, subst, ℕ, zero, suc, ◌==◌, Bool, true, false, cond, List, [], ◌∷◌, refl}
-use Rattle.std.specs.Prelude.{Option, Some, None, codes, slice_get}
+use Rattle.std.proofs.Common.{◌≡◌, ◌∙◌, sym, ap, subst, ℕ, zero, suc, ◌==◌, Bool, true, false, cond, List, [], ◌∷◌, ◌++◌, refl}
+use Rattle.std.specs.Prelude.{Option, Some, None, codes, slice_get, option_and_then}
 use Rattle.std.specs.Str.{bytes_eq}
 use Rattle.std.proofs.lemmas.Bool.{eqb-true, false≢true}
 use Rattle.std.proofs.lemmas.Slice.Eq.{bytes_eq-Decides}
 use Rattle.form_table.specs.Rows.{name_text, row_operands, slots_of}
-use Rattle.form_table.specs.Spells.{empty}
+use Rattle.form_table.specs.Spells.{empty, put, front}
 use Rattle.form_table.specs.Reads.{held_at, is_zero, without_number, twice_first, settled}
 use Rattle.form_table.specs.Printed.{has_register}
-use Rattle.form_table.specs.Tables.{letter_code, same_slot, same_slots, same_spelling, same_spellings, same_without, twice_operands, is_own, is_kept_by, is_kept_at, has_kept, all_kept}
+use Rattle.form_table.specs.Tables.{letter_code, same_slot, same_slots, same_spelling, same_spellings, is_left_of, same_without, twice_operands, is_own, is_kept_by, is_kept_at, has_kept, all_kept}
 use Rattle.form_table.specs.declared.rows.Letter.{Letter}
 use Rattle.form_table.specs.declared.rows.Letter.TheVariants as letter
 use Rattle.form_table.specs.declared.rows.Name.{Name}
@@ -23,7 +23,8 @@ use Rattle.form_table.specs.declared.rows.Alias.TheVariants as alias
 use Rattle.form_table.specs.declared.rows.Row.{Row}
 use Rattle.form_table.specs.declared.spells.Held.{Held}
 use Rattle.form_table.specs.declared.reader.Fit.{Fit}
-use Rattle.form_table.proofs.Refill.{IsFront, front_none}
+use Rattle.form_table.proofs.SlotItems.{slot_item, slot_items, ShowsRegister}
+use Rattle.form_table.proofs.Refill.{IsFront, front_none, register_again}
 use Rattle.form_table.proofs.Filled.{Fills, Filled, set_register_is}
 use Rattle.sl_laws.proofs.Tests.{else_parts, then_parts}
 
@@ -121,22 +122,55 @@ twice_filled row (a ∷ b ∷ c ∷ []) f = absurd f.1.1.1
 twice_filled row (a ∷ b ∷ c ∷ d ∷ helds) f = (f.0, (f.0, (f.1.0, (f.1.1.0, (f.1.1.1.0, tt)))))
 
 -- an operand without register is nothing without its number
-without_fills : (a b : Shape) (held : Held) → has_register a ≡ false → same_spelling shape.Nothing b ≡ true → Fills a held →
+nothing_fills : (a b : Shape) (held : Held) → cond (has_register a) false (same_spelling shape.Nothing b) ≡ true → Fills a held →
     Fills b (record { register = held.register; number = None })
-without_fills a b held e same f =
-    let none : held.register ≡ None = f.front.register (set_register_is a ∙ e) in
+nothing_fills a b held e f =
+    let parts = else_parts (has_register a) (same_spelling shape.Nothing b) e in
+    let none : held.register ≡ None = f.front.register (set_register_is a ∙ parts.0) in
     let left : Held = record { register = held.register; number = None } in
     let is : empty ≡ left = ap (λ o. let h : Held = record { register = o; number = None } in h) (sym none) in
-    same_fills shape.Nothing b left same (record { front = front_none empty left is })
+    same_fills shape.Nothing b left parts.1 (record { front = front_none empty left is })
+
+-- a base is left without its offset
+base_fills : (l : Letter) (held : Held) → Fills (shape.Offset l) held → Fills (shape.Base l) (record { register = held.register; number = None })
+unfolding front slot_items slot_item put
+base_fills l held f =
+    let shows : ShowsRegister l held.register = f.front.holds.1.1.0 in
+    let left : Held = record { register = held.register; number = None } in
+    record {
+      front = record {
+        register = λ t. absurd cc;
+        number = λ t. refl;
+        register_there = λ t. f.front.register_there refl;
+        number_there = λ t. absurd cc;
+        holds = (tt, (tt, (shows, (tt, tt))));
+        again =
+            λ more. ap (option_and_then (λ (h : Held). front h (slot.Mark 93 ∷ []) (slot_items left (slot.Mark 93 ∷ []) ++ more)))
+            (register_again empty left l held.register refl shows);
+      };
+    }
+
+left_fills : (a b : Shape) (held : Held) → is_left_of a b ≡ true → Fills a held →
+    Fills b (record { register = held.register; number = None })
+left_fills (shape.Offset l) b held e f =
+    same_fills (shape.Base l) b (record { register = held.register; number = None }) e (base_fills l held f)
+left_fills shape.Nothing b held e f = nothing_fills shape.Nothing b held e f
+left_fills (shape.Register l) b held e f = nothing_fills (shape.Register l) b held e f
+left_fills shape.Number b held e f = nothing_fills shape.Number b held e f
+left_fills shape.Condition b held e f = nothing_fills shape.Condition b held e f
+left_fills (shape.Shift n) b held e f = nothing_fills (shape.Shift n) b held e f
+left_fills (shape.Lanes n) b held e f = nothing_fills (shape.Lanes n) b held e f
+left_fills (shape.Lane n) b held e f = nothing_fills (shape.Lane n) b held e f
+left_fills (shape.Base l) b held e f = nothing_fills (shape.Base l) b held e f
+left_fills (shape.Before l) b held e f = nothing_fills (shape.Before l) b held e f
 
 without_filled : (place : ℕ) (xs bs : List Operand) (helds : List Held) → same_without place xs bs ≡ true → Filled xs helds → Filled bs (without_number helds place)
 without_filled place [] bs helds e f = absurd (false≢true e)
 without_filled place (a ∷ xs) [] helds e f = absurd (false≢true e)
 without_filled place (a ∷ xs) (b ∷ bs) [] e f = absurd f
 without_filled zero (a ∷ xs) (b ∷ bs) (held ∷ helds) e f =
-    let one = else_parts (has_register a.shape) (cond (same_spelling shape.Nothing b.shape) (same_spellings xs bs) false) e in
-    let two = then_parts (same_spelling shape.Nothing b.shape) (same_spellings xs bs) one.1 in
-    (without_fills a.shape b.shape held one.0 two.0 f.0, same_filled xs bs helds two.1 f.1)
+    let parts = then_parts (is_left_of a.shape b.shape) (same_spellings xs bs) e in
+    (left_fills a.shape b.shape held parts.0 f.0, same_filled xs bs helds parts.1 f.1)
 without_filled (suc place) (a ∷ xs) (b ∷ bs) (held ∷ helds) e f =
     let parts = then_parts (same_spelling a.shape b.shape) (same_without place xs bs) e in
     (same_fills a.shape b.shape held parts.0 f.0, without_filled place xs bs helds parts.1 f.1)

@@ -43,26 +43,23 @@ unfolding or_else
 found_later None b r e f = f
 found_later (Some y) b r e f = absurd cc
 
--- what is found in the first part, in the second one, and in the third one
-pub fit_in_first : (first second third : List Row) (text : List ℕ) (items : List Item) (fit : Fit) →
-    Some fit ≡ fit_from 0 first text items → Some fit ≡ fit_from 0 (first ++ (second ++ third)) text items
-fit_in_first first second third text items fit e =
-    found_first (fit_from 0 first text items) (fit_from (length first) (second ++ third) text items) fit e ∙ sym (fit_begins first (second ++ third) text items)
+-- what is found in a part is found in the whole
+pub fit_here : (form : ℕ) (front back : List Row) (text : List ℕ) (items : List Item) (fit : Fit) →
+    Some fit ≡ fit_from form front text items → Some fit ≡ fit_from form (front ++ back) text items
+fit_here form front back text items fit e =
+    found_first (fit_from form front text items) (fit_from (form + length front) back text items) fit e ∙ sym (fit_behind form front back text items)
 
-pub fit_in_second : (first second third : List Row) (text : List ℕ) (items : List Item) (fit : Fit) →
-    None ≡ fit_from 0 first text items → Some fit ≡ fit_from (length first) second text items → Some fit ≡ fit_from 0 (first ++ (second ++ third)) text items
-fit_in_second first second third text items fit none e =
-    found_later (fit_from 0 first text items) (fit_from (length first) (second ++ third) text items) (Some fit) none
-    (found_first (fit_from (length first) second text items) (fit_from (length first + length second) third text items) fit e ∙ sym (fit_behind (length first) second third text items))
-    ∙ sym (fit_begins first (second ++ third) text items)
+-- and what isn't found in a part is what is found behind it
+pub fit_later : (form : ℕ) (front back : List Row) (text : List ℕ) (items : List Item) (answer : Option Fit) →
+    None ≡ fit_from form front text items → answer ≡ fit_from (form + length front) back text items → answer ≡ fit_from form (front ++ back) text items
+fit_later form front back text items answer none e =
+    found_later (fit_from form front text items) (fit_from (form + length front) back text items) answer none e ∙ sym (fit_behind form front back text items)
 
-pub fit_in_third : (first second third : List Row) (text : List ℕ) (items : List Item) (answer : Option Fit) →
-    None ≡ fit_from 0 first text items → None ≡ fit_from (length first) second text items → answer ≡ fit_from (length first + length second) third text items
-    → answer ≡ fit_from 0 (first ++ (second ++ third)) text items
-fit_in_third first second third text items answer none nor e =
-    found_later (fit_from 0 first text items) (fit_from (length first) (second ++ third) text items) answer none
-    (found_later (fit_from (length first) second text items) (fit_from (length first + length second) third text items) answer nor e ∙ sym (fit_behind (length first) second third text items))
-    ∙ sym (fit_begins first (second ++ third) text items)
+-- the same from the first row on
+pub fit_begun : (front back : List Row) (text : List ℕ) (items : List Item) (answer : Option Fit) →
+    None ≡ fit_from 0 front text items → answer ≡ fit_from (length front) back text items → answer ≡ fit_from 0 (front ++ back) text items
+fit_begun front back text items answer none e =
+    found_later (fit_from 0 front text items) (fit_from (length front) back text items) answer none e ∙ sym (fit_begins front back text items)
 
 pub get_before : {A : Type 0} (front back : List A) (k : ℕ) → k < length front → slice_get (front ++ back) k ≡ slice_get front k
 get_before [] back k h = absurd (omega arith)

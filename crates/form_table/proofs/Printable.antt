@@ -24,7 +24,7 @@ use Rattle.form_table.proofs.Filled.{Filled, filled_shaped}
 use Rattle.sl_laws.proofs.Tests.{some_value, then_parts}
 
 -- numbers between two that spellings have
-between : (least most n : ℤ) (limit : ℕ) → int_le least n ≡ true → int_le n most ≡ true → unsigned_abs least < limit → unsigned_abs most < limit → unsigned_abs n < limit
+pub between : (least most n : ℤ) (limit : ℕ) → int_le least n ≡ true → int_le n most ≡ true → unsigned_abs least < limit → unsigned_abs most < limit → unsigned_abs n < limit
 between least (pos b) (pos a) limit l m x y = let h : a ≤ b = leb-true a b m in omega arith
 between least (negsuc b) (pos a) limit l m x y = absurd cc
 between (pos b) most (negsuc a) limit l m x y = absurd cc

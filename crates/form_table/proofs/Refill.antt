@@ -134,7 +134,7 @@ with_register held o = record { register = o; number = held.number }
 abbrev with_number : Held → Option ℤ → Held
 with_number held o = record { register = held.register; number = o }
 
-register_again : (held final : Held) (letter : Letter) (o : Option Reg) → final.register ≡ o → (s : ShowsRegister letter o) →
+pub register_again : (held final : Held) (letter : Letter) (o : Option Reg) → final.register ≡ o → (s : ShowsRegister letter o) →
     put held (slot.Register letter) (slot_item final (slot.Register letter)) ≡ Some (with_register held o)
 unfolding put slot_item
 register_again held final letter o e s =

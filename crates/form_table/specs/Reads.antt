@@ -117,13 +117,15 @@ registers_suit (operand ∷ operands) [] = true
 registers_suit (operand ∷ operands) (held ∷ helds) =
     if register_suits operand held.register then registers_suit operands helds else false
 
--- Which roles are picked: inputs where they stand, of which data are those but the bases; inputs
--- that come last; outputs that come first; and a base that is written back.
+-- Which roles are picked: inputs where they stand, which are data or bases; inputs that come
+-- last; outputs that come first; and a base that is written back.
 abbrev pub is_picked : Pick → Role → Bool
 is_picked pick.Read In = true
 is_picked pick.Read Base = true
 is_picked pick.Read Back = true
 is_picked pick.Data In = true
+is_picked pick.Base Base = true
+is_picked pick.Base Back = true
 is_picked pick.Tied Tied = true
 is_picked pick.Written Out = true
 is_picked pick.Written Tied = true

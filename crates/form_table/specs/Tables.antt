@@ -124,13 +124,19 @@ same_spellings (a ∷ operands) [] = false
 same_spellings (a ∷ operands) (b ∷ bs) =
     if same_spelling a.shape b.shape then same_spellings operands bs else false
 
--- Are they, but for the one at a place, which has no register, and which the other row hasn't?
+-- Is an operand of one shape without its number spelled as one of another? Of a base with an
+-- offset the base is left, and of an operand without register nothing.
+abbrev pub is_left_of : Shape → Shape → Bool
+is_left_of (shape.Offset letter) b = same_spelling (shape.Base letter) b
+is_left_of a b = if has_register a then false else same_spelling shape.Nothing b
+
+-- Are all operands spelled alike, but that the one at a place stands without its number
+-- in the other row?
 abbrev pub same_without : ℕ → List Operand → List Operand → Bool
 same_without place [] bs = false
 same_without place (a ∷ operands) [] = false
 same_without zero (a ∷ operands) (b ∷ bs) =
-    if has_register a.shape then false
-    else (if same_spelling shape.Nothing b.shape then same_spellings operands bs else false)
+    if is_left_of a.shape b.shape then same_spellings operands bs else false
 same_without (suc place) (a ∷ operands) (b ∷ bs) =
     if same_spelling a.shape b.shape then same_without place operands bs else false
 

@@ -33,6 +33,8 @@ pub enum Pick {
     Read,
     /// Of these those that are no base.
     Data,
+    /// And those that are one.
+    Base,
     /// Those that are read last.
     Tied,
     /// Those that are written first.
@@ -203,6 +205,7 @@ pub fn is_picked(pick: Pick, role: Role) -> bool
     match pick {
         Pick::Read => matches!(role, Role::In | Role::Base | Role::Back),
         Pick::Data => matches!(role, Role::In),
+        Pick::Base => matches!(role, Role::Base | Role::Back),
         Pick::Tied => matches!(role, Role::Tied),
         Pick::Written => matches!(role, Role::Out | Role::Tied),
         Pick::Back => matches!(role, Role::Back),
@@ -478,7 +481,10 @@ fn is_mnemonic(table: &Table<'_>, text: &str) -> bool
     if has_form(table.second, text) {
         return true;
     }
-    has_form(table.third, text)
+    if has_form(table.third, text) {
+        return true;
+    }
+    has_form(table.fourth, text)
 }
 
 // The row of the table of this mnemonic that takes the items.
@@ -493,7 +499,11 @@ fn find_fit(table: &Table<'_>, text: &str, items: &[Item<'_>]) -> Option<Fit>
     if let Some(fit) = fit_from(behind, table.second, text, items) {
         return Some(fit);
     }
-    fit_from(behind + table.second.len() as u16, table.third, text, items)
+    let behind = behind + table.second.len() as u16;
+    if let Some(fit) = fit_from(behind, table.third, text, items) {
+        return Some(fit);
+    }
+    fit_from(behind + table.third.len() as u16, table.fourth, text, items)
 }
 
 // Whether this is a mnemonic of the table, with what stands behind it.

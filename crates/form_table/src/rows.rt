@@ -166,8 +166,8 @@ pub enum Alias {
     As(u16),
     /// That of another row, in which the first register stands twice.
     Repeat(u16),
-    /// That of another row without the number of the operand at a place, counted from
-    /// 0, where it is 0; else its own.
+    /// That of another row without the number of the operand at a place, counted from 0, where it
+    /// is 0; else its own. The operand is a base with an offset, or has no register.
     ZeroAs { form: u16, place: u8 },
 }
 

@@ -4,13 +4,14 @@ ghost use Rattle.form_table.specs.TableRows.{rows_of};
 
 use crate::rows::Row;
 
-/// A table: its rows stand in three parts, one behind the other, since a
+/// A table: its rows stand in four parts, one behind the other, since a
 /// constant can't hold many of them.
 #[derive(Clone, Copy)]
 pub struct Table<'t> {
     pub first: &'t [Row],
     pub second: &'t [Row],
     pub third: &'t [Row],
+    pub fourth: &'t [Row],
 }
 
 impl<'t> Table<'t> {
@@ -33,6 +34,11 @@ impl<'t> Table<'t> {
         let third = self.third;
         if place < third.len() {
             return Some(&third[place]);
+        }
+        let place = place - third.len();
+        let fourth = self.fourth;
+        if place < fourth.len() {
+            return Some(&fourth[place]);
         }
         None
     }

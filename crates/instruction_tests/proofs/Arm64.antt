@@ -1,5 +1,5 @@
--- What is read is an instruction of AArch64, the greatest values fit their registers, and each form below 341 is known.
-use Rattle.std.proofs.Common.{◌≡◌, refl, ℕ, List, ◌<◌, ◌≤◌, arith, subst, sym, lit<}
+-- What is read is an instruction of AArch64, the greatest values fit their registers, and each form below 425 is known.
+use Rattle.std.proofs.Common.{◌≡◌, refl, ℕ, List, ◌^◌, ◌<◌, ◌≤◌, arith, subst, sym, lit<}
 use Rattle.std.specs.Prelude.{Result, Ok, Err, IfOk}
 use Rattle.sl_model.specs.declared.register.Bank.{Bank}
 use Rattle.sl_model.specs.declared.register.Bank.TheVariants.{General, Vector, Flags, Stack}
@@ -14,7 +14,7 @@ use Rattle.form_isa.specs.TableIsa.{table_isa, table_language}
 use Rattle.arm64_table.specs.Document.{each, document}
 use Rattle.arm64_table.specs.Arm64.{arm64}
 use Rattle.arm64_table.specs.Laws.{arm64_lawful}
-use Rattle.sl_model.specs.Machine.{limit_of}
+use Rattle.sl_model.specs.Machine.{limit_of, space_of}
 
 pub read_is_valid : (answer : Result Instr FormErr) (words : List Lexeme) → Gives reason_of (λ i. i) answer (arm64.reads words) → IfOk answer (λ i. IsValid arm64.isa i)
 read_is_valid (Ok i) words e = (arm64_lawful.read words i e).valid
@@ -41,12 +41,16 @@ pub stack : 18446744073709551615 < limit_of arm64.isa.name Stack
 unfolding arm64 table_language table_isa
 stack = lit< tt
 
+pub addressed : (address : ℕ) → address < 2 ^ 64 → address < space_of arm64.isa.name
+unfolding arm64 table_language table_isa
+addressed address h = h
+
 pub below : (value most limit : ℕ) → value ≤ most → most < limit → value < limit
 below value most limit p q = omega (arith, p, q)
 
-forms_are_341 : arm64.isa.forms ≡ 341
+forms_are_425 : arm64.isa.forms ≡ 425
 unfolding arm64 table_language table_isa document each
-forms_are_341 = refl
+forms_are_425 = refl
 
-pub is_known : (form : ℕ) → form < 341 → form < arm64.isa.forms
-is_known form h = subst (λ n. form < n) (sym forms_are_341) h
+pub is_known : (form : ℕ) → form < 425 → form < arm64.isa.forms
+is_known form h = subst (λ n. form < n) (sym forms_are_425) h

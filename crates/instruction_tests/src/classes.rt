@@ -9,7 +9,7 @@ use sl_text::lines;
 use std::alloc::{AllocError, Global};
 
 /// The classes in the order of their numbers, each with what is of it: a mnemonic and the kinds of its operands, `r` for a general register,
-/// `v` for a vector register, `e` for an element, `n` for a number, `s` for a shift and `c` for a condition.
+/// `v` for a vector register, `e` for an element, `m` for a place in memory, `n` for a number, `s` for a shift and `c` for a condition.
 const CLASSES: [(&str, &str); 10] = [
     (
         "alu",
@@ -26,8 +26,14 @@ const CLASSES: [(&str, &str); 10] = [
         "mul",
         "mul rrr, madd rrrr, msub rrrr, umulh rrr, smulh rrr, umull rrr, smull rrr",
     ),
-    ("load", ""),
-    ("store", ""),
+    (
+        "load",
+        "ldr rm, ldr rmn, ldr vm, ldr vmn, ldur rm, ldur rmn, ldur vm, ldur vmn, ldp rrm, ldp rrmn, ldp vvm, ldp vvmn",
+    ),
+    (
+        "store",
+        "str rm, str rmn, str vm, str vmn, stur rm, stur rmn, stur vm, stur vmn, stp rrm, stp rrmn, stp vvm, stp vvmn",
+    ),
     (
         "valu",
         "add vvv, sub vvv, and vvv, orr vvv, eor vvv, bic vvv, mov vv",
@@ -53,17 +59,20 @@ fn kind_of(operand: &str) -> &'static str {
     if operand.starts_with('#') {
         return "n";
     }
+    if operand.starts_with('[') {
+        return "m";
+    }
     if operand.contains(" #") {
         return "s";
     }
     if operand.contains('[') {
         return "e";
     }
-    if operand.starts_with('v') {
-        return "v";
-    }
     if operand.starts_with('x') || operand.starts_with('w') {
         return "r";
+    }
+    if operand != "le" {
+        return "v";
     }
     "c"
 }
@@ -93,7 +102,7 @@ fn wanted_for(alloc: Global, text: &str) -> Result<String, AllocError> {
 
 /// The name of the class of a form.
 fn class_of(form: u16) -> &'static str
-    requires { form < 341 }
+    requires { form < 425 }
 {
     let class = usize::from(Arm64.info(form).class);
     if class < 10 {
@@ -102,23 +111,27 @@ fn class_of(form: u16) -> &'static str
     "none"
 }
 
-#[test]
-fn each_row_has_its_class(rt: HostRuntime) -> Result<(), AllocError> {
-    let mut failing = Failing::new(rt.alloc());
-    let mut form: u16 = 0;
-    for part in PARTS {
-        if part.len() < 65536 {
-            for line in lines(part, 1) {
-                if form < 341 {
-                    let wanted = wanted_for(rt.alloc(), line.text)?;
-                    failing.compare(line.text, class_of(form), wanted.as_str())?;
-                }
-                form = form.saturating_add(1);
+/// Notes the rows of a part, the first of which has this form, that have another class; gives the form behind them.
+fn check_part(alloc: Global, part: &str, first: u16, failing: &mut Failing) -> u16 {
+    let mut form = first;
+    if part.len() < 65536 {
+        for line in lines(part, 1) {
+            if form < 425 {
+                failing.compare(line.text, wanted_for(alloc, line.text), class_of(form));
             }
+            form = form.saturating_add(1);
         }
     }
-    let found = failing.text();
-    assert!(rt; found.is_empty(), "{found}");
-    assert_eq!(rt; usize::from(form), ROWS);
-    Ok(())
+    form
+}
+
+#[test]
+fn each_row_has_its_class(rt: HostRuntime) -> Failing {
+    let mut failing = Failing::new(rt.alloc());
+    let mut form: u16 = 0;
+    for part in &PARTS {
+        form = check_part(rt.alloc(), part, form, &mut failing);
+    }
+    failing.check("the number of rows", usize::from(form) == ROWS);
+    failing
 }

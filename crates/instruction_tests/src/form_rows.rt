@@ -1,6 +1,6 @@
 //! One spelling of each row of the table of AArch64, in its order, as `checks/tables` writes them.
 
-pub const ROWS: usize = 341;
+pub const ROWS: usize = 425;
 
 pub const PARTS: [&str; 2] = [
     "\
@@ -345,5 +345,89 @@ pub const PARTS: [&str; 2] = [
     umov w3, v17.b[15]\n\
     umov w3, v17.h[7]\n\
     umov w3, v17.s[3]\n\
-    umov x3, v17.d[1]",
+    umov x3, v17.d[1]\n\
+    ldr x3, [x17]\n\
+    ldr x3, [x17, #32760]\n\
+    ldr x3, [x17], #255\n\
+    ldr x3, [x17, #255]!\n\
+    ldr w3, [x17]\n\
+    ldr w3, [x17, #16380]\n\
+    ldr w3, [x17], #255\n\
+    ldr w3, [x17, #255]!\n\
+    ldr q3, [x17]\n\
+    ldr q3, [x17, #65520]\n\
+    ldr q3, [x17], #255\n\
+    ldr q3, [x17, #255]!\n\
+    ldr d3, [x17]\n\
+    ldr d3, [x17, #32760]\n\
+    ldr d3, [x17], #255\n\
+    ldr d3, [x17, #255]!\n\
+    ldr s3, [x17]\n\
+    ldr s3, [x17, #16380]\n\
+    ldr s3, [x17], #255\n\
+    ldr s3, [x17, #255]!\n\
+    str x3, [x17]\n\
+    str x3, [x17, #32760]\n\
+    str x3, [x17], #255\n\
+    str x3, [x17, #255]!\n\
+    str w3, [x17]\n\
+    str w3, [x17, #16380]\n\
+    str w3, [x17], #255\n\
+    str w3, [x17, #255]!\n\
+    str q3, [x17]\n\
+    str q3, [x17, #65520]\n\
+    str q3, [x17], #255\n\
+    str q3, [x17, #255]!\n\
+    str d3, [x17]\n\
+    str d3, [x17, #32760]\n\
+    str d3, [x17], #255\n\
+    str d3, [x17, #255]!\n\
+    str s3, [x17]\n\
+    str s3, [x17, #16380]\n\
+    str s3, [x17], #255\n\
+    str s3, [x17, #255]!\n\
+    ldur x3, [x17]\n\
+    ldur x3, [x17, #255]\n\
+    ldur w3, [x17]\n\
+    ldur w3, [x17, #255]\n\
+    ldur q3, [x17]\n\
+    ldur q3, [x17, #255]\n\
+    ldur d3, [x17]\n\
+    ldur d3, [x17, #255]\n\
+    ldur s3, [x17]\n\
+    ldur s3, [x17, #255]\n\
+    stur x3, [x17]\n\
+    stur x3, [x17, #255]\n\
+    stur w3, [x17]\n\
+    stur w3, [x17, #255]\n\
+    stur q3, [x17]\n\
+    stur q3, [x17, #255]\n\
+    stur d3, [x17]\n\
+    stur d3, [x17, #255]\n\
+    stur s3, [x17]\n\
+    stur s3, [x17, #255]\n\
+    ldp x3, x17, [x29]\n\
+    ldp x3, x17, [x29, #504]\n\
+    ldp x3, x17, [x29], #504\n\
+    ldp x3, x17, [x29, #504]!\n\
+    ldp d3, d17, [x29]\n\
+    ldp d3, d17, [x29, #504]\n\
+    ldp d3, d17, [x29], #504\n\
+    ldp d3, d17, [x29, #504]!\n\
+    ldp q3, q17, [x29]\n\
+    ldp q3, q17, [x29, #1008]\n\
+    ldp q3, q17, [x29], #1008\n\
+    ldp q3, q17, [x29, #1008]!\n\
+    stp x3, x17, [x29]\n\
+    stp x3, x17, [x29, #504]\n\
+    stp x3, x17, [x29], #504\n\
+    stp x3, x17, [x29, #504]!\n\
+    stp d3, d17, [x29]\n\
+    stp d3, d17, [x29, #504]\n\
+    stp d3, d17, [x29], #504\n\
+    stp d3, d17, [x29, #504]!\n\
+    stp q3, q17, [x29]\n\
+    stp q3, q17, [x29, #1008]\n\
+    stp q3, q17, [x29], #1008\n\
+    stp q3, q17, [x29, #1008]!",
 ];

@@ -2,6 +2,10 @@
 #![tactic(auto)]
 
 #[cfg(test)]
+mod access_rows;
+#[cfg(test)]
+mod access_spelling_rows;
+#[cfg(test)]
 mod bits;
 #[cfg(test)]
 mod classes;
@@ -25,3 +29,5 @@ mod spellings;
 mod tables;
 #[cfg(test)]
 mod vectors;
+#[cfg(test)]
+mod walk;

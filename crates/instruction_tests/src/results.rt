@@ -4,14 +4,15 @@ ghost use Rattle.machine_sem.specs.Fits.{Fits};
 ghost use Rattle.arm64_table.specs.Arm64.{arm64};
 ghost use Rattle.sl_model.specs.Machine.{limit_of};
 
+use crate::access_rows;
 use crate::reading::instr_of;
 use crate::result_rows::{PARTS, ROWS};
-use crate::rows::numbers_of;
+use crate::rows::{number_of, numbers_of};
+use crate::walk::{Tested, walk_all};
 use arm64_table::Arm64;
 use machine_sem::{State, step};
 use sample_set::Failing;
 use sl_isa::{Bank, Instr, Reg};
-use sl_text::lines;
 use std::alloc::{AllocError, Global};
 
 /// The greatest value of a register.
@@ -54,6 +55,46 @@ fn put_all(state: &mut State, regs: &[Option<Reg>], values: &[u128]) -> bool
     }
 }
 
+/// Puts a byte in memory; says whether it is there.
+fn put_byte(state: &mut State, address: u64, value: u8) -> bool
+    requires { Fits arm64.isa state.old }
+    ensures { Fits arm64.isa state.new }
+{
+    state.set_byte(address, value).is_ok()
+}
+
+/// Puts the low bytes of a number in memory, so many, the lowest first; says whether all are there.
+fn put_bytes(state: &mut State, address: u64, count: u8, value: u128) -> bool
+    requires { Fits arm64.isa state.old }
+    ensures { Fits arm64.isa state.new }
+{
+    if count == 0 {
+        return true;
+    }
+    put_byte(state, address, (value % 256) as u8)
+        && put_bytes(state, address.wrapping_add(1), count - 1, value / 256)
+}
+
+/// Puts numbers of 16 bytes in memory, one behind the other; says whether all are there.
+fn put_words(state: &mut State, address: u64, words: &[u128]) -> bool
+    requires { Fits arm64.isa state.old }
+    ensures { Fits arm64.isa state.new }
+{
+    let Some((word, words)) = words.split_first() else {
+        return true;
+    };
+    put_bytes(state, address, 16, *word) && put_words(state, address.wrapping_add(16), words)
+}
+
+/// The number of 16 bytes at an address.
+fn word_at(state: &State, address: u64) -> u128 {
+    let mut word: u128 = 0;
+    for place in (0..16u64).rev() {
+        word = (word << 8) | u128::from(state.byte(address.wrapping_add(place)));
+    }
+    word
+}
+
 /// The values of some registers, and 0 in the places of others.
 fn values_in(state: &State, regs: &[Option<Reg>; 3]) -> [u128; 3] {
     let [first, second, third] = *regs;
@@ -63,52 +104,83 @@ fn values_in(state: &State, regs: &[Option<Reg>; 3]) -> [u128; 3] {
     })
 }
 
-/// What an instruction gives whose operands have these values.
-fn results_of(alloc: Global, text: &str, ins: &[u128]) -> Result<[u128; 3], AllocError> {
+/// The values of registers, and the bytes around an access as three numbers.
+#[derive(Clone, Copy)]
+struct Values {
+    regs: [u128; 4],
+    bytes: [u128; 3],
+}
+
+/// What an instruction gives whose operands have these values, where these bytes stand from an address on.
+fn results_of(
+    alloc: Global,
+    text: &str,
+    address: u64,
+    before: &Values,
+) -> Result<Values, AllocError> {
     let Ok(instr) = instr_of(alloc, text) else {
         return Err(AllocError);
     };
     let mut state = State::new(alloc);
-    if put_all(&mut state, &instr.ins, ins) && step(&Arm64, &instr, &mut state).is_ok() {
-        return Ok(values_in(&state, &instr.outs));
+    if put_all(&mut state, &instr.ins, &before.regs)
+        && put_words(&mut state, address, &before.bytes)
+        && step(&Arm64, &instr, &mut state).is_ok()
+    {
+        let [first, second, third] = values_in(&state, &instr.outs);
+        return Ok(Values {
+            regs: [first, second, third, 0],
+            bytes: [0, 16, 32].map(|place| word_at(&state, address.wrapping_add(place))),
+        });
     }
     Err(AllocError)
 }
 
-/// Does a line say what an instruction gives?
-fn is_right(alloc: Global, text: &str, values: &str) -> Result<bool, AllocError> {
-    let Some((operands, results)) = values.split_once(" -> ") else {
-        return Ok(false);
+/// The values in a text: of registers and, behind `@`, bytes; where there are none, these.
+fn values_of(text: &str, bytes: [u128; 3]) -> Values {
+    let mut values = Values {
+        regs: [0; 4],
+        bytes,
     };
-    let mut ins = [0; 4];
-    numbers_of(operands, &mut ins);
-    let mut outs = [0; 3];
-    numbers_of(results, &mut outs);
-    Ok(results_of(alloc, text, &ins)? == outs)
+    let Some((regs, bytes)) = text.split_once(" @ ") else {
+        numbers_of(text, &mut values.regs);
+        return values;
+    };
+    numbers_of(regs, &mut values.regs);
+    numbers_of(bytes, &mut values.bytes);
+    values
 }
 
-/// Notes the lines of a part that fail, and says how many lines there are.
-fn check(alloc: Global, part: &str, failing: &mut Failing) -> Result<usize, AllocError> {
-    let mut count: usize = 0;
-    if part.len() < 65536 {
-        for line in lines(part, 1) {
-            let (text, values) = line.text.split_once(" => ").unwrap_or((line.text, ""));
-            failing.check(line.text, is_right(alloc, text, values)?)?;
-            count = count.saturating_add(1);
-        }
+/// Does a line say what an instruction gives?
+fn is_right(alloc: Global, text: &str, values: &str) -> bool {
+    let Some((before, after)) = values.split_once(" -> ") else {
+        return false;
+    };
+    let (address, before) = before.split_once(": ").unwrap_or(("0", before));
+    let address = (number_of(address) % (1 << 64)) as u64;
+    let before = values_of(before, [0; 3]);
+    let wanted = values_of(after, before.bytes);
+    match results_of(alloc, text, address, &before) {
+        Ok(found) => found.regs == wanted.regs && found.bytes == wanted.bytes,
+        Err(AllocError) => false,
     }
-    Ok(count)
+}
+
+/// An instruction with its operands' values, and what it gives.
+struct Results;
+
+impl Tested for Results {
+    fn try_line(&self, alloc: Global, line: &str, failing: &mut Failing) {
+        let (text, values) = line.split_once(" => ").unwrap_or((line, ""));
+        failing.check(line, is_right(alloc, text, values));
+    }
 }
 
 #[test]
-fn instructions_compute_what_an_emulator_does(rt: HostRuntime) -> Result<(), AllocError> {
-    let mut failing = Failing::new(rt.alloc());
-    let mut count: usize = 0;
-    for part in PARTS {
-        count = count.saturating_add(check(rt.alloc(), part, &mut failing)?);
-    }
-    let found = failing.text();
-    assert!(rt; found.is_empty(), "{found}");
-    assert_eq!(rt; count, ROWS);
-    Ok(())
+fn instructions_compute_what_an_emulator_does(rt: HostRuntime) -> Failing {
+    walk_all(&Results, rt.alloc(), &PARTS, ROWS)
+}
+
+#[test]
+fn accesses_do_what_an_emulator_does(rt: HostRuntime) -> Failing {
+    walk_all(&Results, rt.alloc(), &access_rows::PARTS, access_rows::ROWS)
 }

@@ -1,10 +1,11 @@
 //! What scalar instructions compute, worked out by hand from the Arm Architecture Reference Manual.
 use crate::rows::numbers_of;
+use crate::walk::{Tested, walk};
 use sample_set::Failing;
 use scalar_ops::scalar_values;
 use sl_isa::meaning::{Logic, Product, Scalar, Second, Shift, Size};
 use sl_text::lines;
-use std::alloc::{AllocError, Global};
+use std::alloc::Global;
 
 /// The operations of the cases below, in their order.
 const OPERATIONS: [Scalar; 39] = [
@@ -513,35 +514,36 @@ fn is_right(op: Scalar, line: &str) -> bool {
     scalar_values(op, size, &imms, &ins) == outs
 }
 
-/// Notes the cases of an operation that fail, and says how many there are.
-fn check(alloc: Global, op: Scalar, block: &str, failing: &mut Failing) -> Result<u32, AllocError> {
-    let mut count: u32 = 0;
-    let (name, cases) = block.split_once("\n").unwrap_or((block, ""));
-    if cases.len() < 65536 {
-        for line in lines(cases, 1) {
-            if !is_right(op, line.text) {
-                let text = line.text;
-                failing.check(format!(in alloc; "{name} {text}")?.as_str(), false)?;
-            }
-            count = count.saturating_add(1);
-        }
+/// The cases of an operation.
+#[derive(Drop)]
+struct Scalars(Scalar);
+
+impl Tested for Scalars {
+    fn try_line(&self, _alloc: Global, line: &str, failing: &mut Failing) {
+        failing.check(line, is_right(self.0, line));
     }
-    Ok(count)
+}
+
+/// Notes the name of an operation and those of its cases that fail, if there are any; says how many cases there are.
+fn check(alloc: Global, op: Scalar, block: &str, failing: &mut Failing) -> usize {
+    let (name, cases) = block.split_once("\n").unwrap_or((block, ""));
+    let before = failing.len();
+    let count = walk(&Scalars(op), alloc, cases, failing);
+    failing.check(name, failing.len() == before);
+    count
 }
 
 #[test]
-fn scalar_instructions_compute_what_the_manual_says(rt: HostRuntime) -> Result<(), AllocError> {
+fn scalar_instructions_compute_what_the_manual_says(rt: HostRuntime) -> Failing {
     let mut failing = Failing::new(rt.alloc());
-    let mut count: u32 = 0;
+    let mut count: usize = 0;
     let mut blocks = CASES.split("~\n");
-    for op in OPERATIONS {
+    for op in &OPERATIONS {
         let block = blocks.next().unwrap_or("");
-        count = count.saturating_add(check(rt.alloc(), op, block, &mut failing)?);
+        count = count.saturating_add(check(rt.alloc(), *op, block, &mut failing));
     }
-    let found = failing.text();
-    assert!(rt; found.is_empty(), "{found}");
-    assert_eq!(rt; count, 264);
-    Ok(())
+    failing.check("the number of lines", count == 264);
+    failing
 }
 
 /// The conditions in the order of their numbers, and whether each holds, for the values of the flags from 0 to 15.
@@ -583,25 +585,26 @@ fn selects(number: i64, holds: &str) -> bool {
 }
 
 #[test]
-fn conditions_hold_for_their_flags(rt: HostRuntime) -> Result<(), AllocError> {
+fn conditions_hold_for_their_flags(rt: HostRuntime) -> Failing {
     let mut failing = Failing::new(rt.alloc());
     for line in lines(CONDITIONS, 0) {
         let holds = line.text.split(' ').nth(1).unwrap_or("");
-        failing.check(line.text, selects(i64::from(line.number), holds))?;
+        failing.check(line.text, selects(i64::from(line.number), holds));
     }
-    let found = failing.text();
-    assert!(rt; found.is_empty(), "{found}");
-    Ok(())
+    failing
 }
 
 // Where there are no numbers and operands, they are 0.
 #[test]
-fn nothing_is_zero(rt: HostRuntime) {
+fn nothing_is_zero(rt: HostRuntime) -> Failing {
+    let mut failing = Failing::new(rt.alloc());
     let op = Scalar::Sum {
         minus: false,
         second: Second::Register,
         carries: true,
         flags: true,
     };
-    assert_eq!(rt; scalar_values(op, Size::Bits64, &[], &[]), [0, 4, 0]);
+    let found = scalar_values(op, Size::Bits64, &[], &[]);
+    failing.check("nothing", found == [0, 4, 0]);
+    failing
 }

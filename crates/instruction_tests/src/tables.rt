@@ -1,13 +1,18 @@
 //! Rows of a small table: what is read and printed by them, what they say of their forms, and what they compute.
+ghost use Rattle.std.specs.Prelude.{◌<◌, ◌^◌, length};
+
 use crate::reading::{reason_name, text_from};
+use crate::walk::{Tested, walk_all};
 use form_isa::{info_of, values_of};
 use form_table::printer::print_form;
 use form_table::reader::read_form;
 use form_table::table::Table;
 use sample_set::Failing;
-use sample_set::rows::{ADCS, ADD, ADD_LANES, ANY_X, NO_REGISTER, READABLE, X_OR_ZERO};
-use sl_isa::{FormErr, FormInfo, FormReason, RegSet};
-use sl_text::{Comments, Line, lines, tokens};
+use sample_set::rows::{
+    ADCS, ADD, ADD_LANES, ANY_X, LOAD_PAIR, NO_REGISTER, READABLE, STORE_PAIR, X_OR_ZERO,
+};
+use sl_isa::{ArchName, FormErr, FormInfo, FormReason, RegSet};
+use sl_text::{Comments, Line, Token, tokens};
 use std::alloc::{AllocError, Global};
 
 /// Spellings with what they are printed as, or the first reason why they are refused.
@@ -67,18 +72,28 @@ const SPELLINGS: &str = "\
     str x4, [sp], #8 => RegisterClass\n\
     str x4, [x4], #8 => SameRegister";
 
+/// The tokens of a text.
+fn words_of(alloc: Global, text: &str) -> Result<Vec<Token<'_>>, AllocError>
+    requires { length text.now < 2 ^ 31 }
+{
+    let mut words = Vec::new(alloc);
+    for token in tokens(Line { number: 1, text }, Comments::Slash, false) {
+        words.push(token)?;
+    }
+    Ok(words)
+}
+
 /// How a spelling is printed, or the reason why it is refused.
 fn answer_to(alloc: Global, text: &str) -> Result<String, AllocError> {
-    let mut words = Vec::new(alloc);
-    if text.len() < 1024 {
-        for token in tokens(Line { number: 1, text }, Comments::Slash, false) {
-            words.push(token)?;
-        }
+    if 1024 <= text.len() {
+        return Err(AllocError);
     }
+    let words = words_of(alloc, text)?;
     let table = Table {
         first: &READABLE,
         second: &[],
         third: &[],
+        fourth: &[],
     };
     let mut out = Vec::new(alloc);
     match read_form(&table, alloc, &words) {
@@ -93,99 +108,133 @@ fn answer_to(alloc: Global, text: &str) -> Result<String, AllocError> {
     text_from(alloc, &out)
 }
 
-#[test]
-fn spellings_have_their_answers(rt: HostRuntime) -> Result<(), AllocError> {
-    let mut failing = Failing::new(rt.alloc());
-    let mut count: u32 = 0;
-    for line in lines(SPELLINGS, 1) {
-        if let Some((text, wanted)) = line.text.split_once(" => ") {
-            failing.compare(text, answer_to(rt.alloc(), text)?.as_str(), wanted)?;
-            count = count.saturating_add(1);
-        }
+/// A spelling, and how it is printed or why it is refused.
+struct Spellings;
+
+impl Tested for Spellings {
+    fn try_line(&self, alloc: Global, line: &str, failing: &mut Failing) {
+        let (text, wanted) = line.split_once(" => ").unwrap_or((line, "no arrow"));
+        failing.compare(text, answer_to(alloc, text), wanted);
     }
-    let found = failing.text();
-    assert!(rt; found.is_empty(), "{found}");
-    assert_eq!(rt; count, 54);
-    Ok(())
+}
+
+#[test]
+fn spellings_have_their_answers(rt: HostRuntime) -> Failing {
+    walk_all(&Spellings, rt.alloc(), &[SPELLINGS], 54)
 }
 
 const FLAGS: RegSet = RegSet { bits: 1 << 64 };
 
-#[test]
-fn a_plain_row(rt: HostRuntime) {
-    let wanted = FormInfo {
-        class: 3,
-        in_sets: [X_OR_ZERO, X_OR_ZERO, NO_REGISTER, NO_REGISTER],
-        out_sets: [ANY_X, NO_REGISTER, NO_REGISTER],
-        tied: [None, None, None],
-        back: None,
-        base: None,
-        store: false,
-        size: 0,
-    };
-    assert_eq!(rt; info_of(&ADD), wanted);
-}
+/// What is said of `add`.
+const OF_ADD: FormInfo = FormInfo {
+    class: 3,
+    in_sets: [X_OR_ZERO, X_OR_ZERO, NO_REGISTER, NO_REGISTER],
+    out_sets: [ANY_X, NO_REGISTER, NO_REGISTER],
+    tied: [None, None, None],
+    back: None,
+    base: None,
+    store: false,
+    size: 0,
+};
+
+/// What is said of `adcs`, which is tied and has flags.
+const OF_ADCS: FormInfo = FormInfo {
+    class: 1,
+    in_sets: [X_OR_ZERO, ANY_X, FLAGS, NO_REGISTER],
+    out_sets: [ANY_X, FLAGS, NO_REGISTER],
+    tied: [Some(1), None, None],
+    ..OF_ADD
+};
+
+/// What is said of `stp` where its base is written back.
+const OF_STORE_PAIR: FormInfo = FormInfo {
+    class: 0,
+    in_sets: [X_OR_ZERO, X_OR_ZERO, ANY_X, NO_REGISTER],
+    tied: [Some(2), None, None],
+    back: Some(0),
+    base: Some(2),
+    store: true,
+    size: 16,
+    ..OF_ADD
+};
+
+/// What is said of `ldp` where its base is written back.
+const OF_LOAD_PAIR: FormInfo = FormInfo {
+    in_sets: [ANY_X, NO_REGISTER, NO_REGISTER, NO_REGISTER],
+    out_sets: [ANY_X, ANY_X, ANY_X],
+    tied: [None, None, Some(0)],
+    back: Some(2),
+    base: Some(0),
+    store: false,
+    ..OF_STORE_PAIR
+};
 
 #[test]
-fn a_tied_row_with_flags(rt: HostRuntime) {
-    let wanted = FormInfo {
-        class: 1,
-        in_sets: [X_OR_ZERO, ANY_X, FLAGS, NO_REGISTER],
-        out_sets: [ANY_X, FLAGS, NO_REGISTER],
-        tied: [Some(1), None, None],
-        back: None,
-        base: None,
-        store: false,
-        size: 0,
-    };
-    assert_eq!(rt; info_of(&ADCS), wanted);
+fn rows_say_what_their_forms_are(rt: HostRuntime) -> Failing {
+    let mut failing = Failing::new(rt.alloc());
+    failing.check("a plain row", info_of(&ADD) == OF_ADD);
+    failing.check("a tied row with flags", info_of(&ADCS) == OF_ADCS);
+    failing.check("a pair stored", info_of(&STORE_PAIR) == OF_STORE_PAIR);
+    failing.check("a pair loaded", info_of(&LOAD_PAIR) == OF_LOAD_PAIR);
+    failing
 }
 
 // C is set before, and the sum of all ones, 0 and the carry is 0 with Z and C. In lanes the low one wraps, and the next one doesn't get its
 // carry.
 #[test]
-fn sums_of_rows(rt: HostRuntime) {
-    let ins = [0xffff_ffff_ffff_ffff, 0, 2];
-    assert_eq!(rt; values_of(&ADCS, &[0, 0, 0], &ins), [0, 6, 0]);
-    let ins = [0x0001_ffff, 0x0001_0001];
-    assert_eq!(rt;
-        values_of(&ADD_LANES, &[0, 0, 0], &ins),
-        [0x0002_0000, 0, 0]
+fn sums_of_rows(rt: HostRuntime) -> Failing {
+    let mut failing = Failing::new(rt.alloc());
+    let sum = values_of(
+        ArchName::Arm64,
+        &ADCS,
+        &[0, 0, 0],
+        &[0xffff_ffff_ffff_ffff, 0, 2],
+        &[],
     );
+    failing.check("a sum with carry", sum == [0, 6, 0]);
+    let lanes = values_of(
+        ArchName::Arm64,
+        &ADD_LANES,
+        &[0, 0, 0],
+        &[0x0001_ffff, 0x0001_0001],
+        &[],
+    );
+    failing.check("a sum of lanes", lanes == [0x0002_0000, 0, 0]);
+    failing
 }
 
-// With memory at hand words of any number are read, and an instruction is printed behind any text.
-#[test]
-fn long_lists_of_words_are_refused_as_words(rt: HostRuntime) -> Result<(), AllocError> {
+/// A mnemonic with so many operands.
+fn long_text(alloc: Global, count: usize) -> Result<String, AllocError> {
+    let mut text = String::from_str(alloc, "add")?;
+    for _ in 0..count {
+        text.push_str(" x1,")?;
+    }
+    Ok(text)
+}
+
+/// Is an instruction with so many operands refused for them?
+fn is_refused(alloc: Global, count: usize) -> Result<bool, AllocError> {
+    let text = long_text(alloc, count)?;
+    if 1 << 31 <= text.len() {
+        return Ok(false);
+    }
+    let words = words_of(alloc, text.as_str())?;
     let table = Table {
         first: &READABLE,
         second: &[],
         third: &[],
+        fourth: &[],
     };
-    for count in [32, 33, 48, 64, 65, 256, 257, 4097, 65537] {
-        let mut text = String::from_str(rt.alloc(), "add")?;
-        for _ in 0..count {
-            text.push_str(" x1,")?;
-        }
-        let mut words = Vec::new(rt.alloc());
-        if text.len() < 1 << 31 {
-            for token in tokens(
-                Line {
-                    number: 1,
-                    text: text.as_str(),
-                },
-                Comments::Slash,
-                false,
-            ) {
-                words.push(token)?;
-            }
-        }
-        let found = read_form(&table, rt.alloc(), &words);
-        assert_eq!(rt;
-            found,
-            Err(FormErr::Refused(FormReason::BadOperand)),
-            "{count} operands"
-        );
+    let found = read_form(&table, alloc, &words);
+    Ok(found == Err(FormErr::Refused(FormReason::BadOperand)))
+}
+
+// With memory at hand words of any number are read.
+#[test]
+fn long_lists_of_words_are_refused_as_words(rt: HostRuntime) -> Failing {
+    let mut failing = Failing::new(rt.alloc());
+    for count in &[32, 33, 48, 64, 65, 256, 257, 4097, 65537] {
+        failing.check_number(*count, is_refused(rt.alloc(), *count) == Ok(true));
     }
-    Ok(())
+    failing
 }

@@ -1,10 +1,10 @@
 //! What vector instructions compute, worked out by hand from the Arm Architecture Reference Manual.
 use crate::rows::numbers_of;
+use crate::walk::{Tested, walk};
 use lane_ops::vector_value;
 use sample_set::Failing;
 use sl_isa::meaning::{Arrangement, Lane, LaneOp, LaneShift, Permutation, Vector};
-use sl_text::lines;
-use std::alloc::{AllocError, Global};
+use std::alloc::Global;
 
 /// The operations of the cases below, in their order.
 const OPERATIONS: [Vector; 125] = [
@@ -942,33 +942,34 @@ fn is_right(op: Vector, line: &str) -> bool {
     vector_value(op, &imms, &ins) == outs[0]
 }
 
-/// Notes the cases of an operation that fail, and says how many there are.
-fn check(alloc: Global, op: Vector, block: &str, failing: &mut Failing) -> Result<u32, AllocError> {
-    let mut count: u32 = 0;
-    let (name, cases) = block.split_once("\n").unwrap_or((block, ""));
-    if cases.len() < 65536 {
-        for line in lines(cases, 1) {
-            if !is_right(op, line.text) {
-                let text = line.text;
-                failing.check(format!(in alloc; "{name} {text}")?.as_str(), false)?;
-            }
-            count = count.saturating_add(1);
-        }
+/// The cases of an operation.
+#[derive(Drop)]
+struct Vectors(Vector);
+
+impl Tested for Vectors {
+    fn try_line(&self, _alloc: Global, line: &str, failing: &mut Failing) {
+        failing.check(line, is_right(self.0, line));
     }
-    Ok(count)
+}
+
+/// Notes the name of an operation and those of its cases that fail, if there are any; says how many cases there are.
+fn check(alloc: Global, op: Vector, block: &str, failing: &mut Failing) -> usize {
+    let (name, cases) = block.split_once("\n").unwrap_or((block, ""));
+    let before = failing.len();
+    let count = walk(&Vectors(op), alloc, cases, failing);
+    failing.check(name, failing.len() == before);
+    count
 }
 
 #[test]
-fn vector_instructions_compute_what_the_manual_says(rt: HostRuntime) -> Result<(), AllocError> {
+fn vector_instructions_compute_what_the_manual_says(rt: HostRuntime) -> Failing {
     let mut failing = Failing::new(rt.alloc());
-    let mut count: u32 = 0;
+    let mut count: usize = 0;
     let mut blocks = CASES.split("~\n");
-    for op in OPERATIONS {
+    for op in &OPERATIONS {
         let block = blocks.next().unwrap_or("");
-        count = count.saturating_add(check(rt.alloc(), op, block, &mut failing)?);
+        count = count.saturating_add(check(rt.alloc(), *op, block, &mut failing));
     }
-    let found = failing.text();
-    assert!(rt; found.is_empty(), "{found}");
-    assert_eq!(rt; count, 171);
-    Ok(())
+    failing.check("the number of lines", count == 171);
+    failing
 }

@@ -1,4 +1,4 @@
--- What a vector instruction gives fits a register.
+-- What a vector instruction gives fits a register; and what other crates cite on lanes.
 use Rattle.std.proofs.Common.{ℕ, ℤ, ◌*◌, ◌/◌, ◌^◌, ◌<◌, ◌≤◌, List, ◌++◌, length, arith}
 use Rattle.std.specs.Prelude.{slice_index}
 use Rattle.std.proofs.Math.Nat.{pow-le-pow_right}
@@ -14,6 +14,7 @@ use Rattle.lane_ops.specs.Vector.{vector_value, half_of, added_to}
 use Rattle.lane_ops.proofs.Lanes.{joined_below}
 use Rattle.lane_ops.proofs.LaneByLane.{length-by_element, length-lanewise, length-products, length-shifts}
 use Rattle.lane_ops.proofs.Moves.{lane_below, length-repeated, length-narrowed, length-inserted, length-extracted, length-permuted}
+pub use Rattle.lane_ops.proofs.Lanes.{joined_below, length-lanes_of}
 
 joined_fits : (bits count : ℕ) (lanes : List ℕ) → bits * count ≤ 128 → length lanes ≤ count → joined bits lanes < 2 ^ 128
 joined_fits bits count lanes fits few =

@@ -9,16 +9,13 @@ use Rattle.sl_model.specs.declared.schedule.Choice.{Choice}
 use Rattle.sl_model.specs.declared.schedule.Source.{Source}
 use Rattle.sl_model.specs.declared.schedule.Source.TheVariants.{Item}
 use Rattle.sl_model.specs.Register.{same_reg, same_bool}
-use Rattle.sl_model.specs.RegSets.{set_has, set_count}
-use Rattle.sl_model.specs.Source.{outputs, padded, item_at}
-use Rattle.sl_model.specs.Isa.{Isa}
+use Rattle.sl_model.specs.RegSets.{set_has}
+use Rattle.sl_model.specs.Source.{outputs, padded, item_at, numbers_below}
 use Rattle.sl_model.specs.Body.{chosen, stands_in, same_source, all_differ}
-use Rattle.sl_model.specs.Lawful.{IsValid}
-use Rattle.sl_model.specs.Legal.{Problem, IsOf, IsLegalNext, IsLegalFrom, allowed_in, output_classes, suits_output, suits_readers, suits_finals, is_final_in, is_flags, numbers_below}
+use Rattle.sl_model.specs.Legal.{Problem, info_in, IsOf, IsLegalNext, IsLegalFrom, allowed_in, output_classes, suits_output, suits_readers, suits_finals, is_final_in, is_flags}
 use Rattle.sl_model.specs.Space.{IsReducedNext, IsReducedFrom, is_free_output, is_final_output, is_tied_output}
 use Rattle.legal_space.specs.Listing.{are_outputs_final, IsListable, own_choice}
 use Rattle.sl_laws.proofs.Members.{Has, from-numbers, has-numbers}
-use Rattle.sl_laws.proofs.RegSets.{set_count-bound}
 use Rattle.sl_laws.proofs.Rules.{keeps_rules}
 use Rattle.sl_laws.proofs.Orders.{has-standing, standing-has, standing-passes}
 use Rattle.sl_laws.proofs.Registers.{same_reg-true}
@@ -39,61 +36,58 @@ final-same value o r (f ∷ finals) any all =
     (or_cases (same_reg f.0 o && same_source f.1 value) (list_any (λ f. same_reg f.0 o && same_source f.1 value) finals) any)
 
 -- outputs that suit their registers, each final in its own, are in their own
-own-registers : (isa : Isa) (problem : Problem) (item k : ℕ) (regs : List Reg) (sets : List RegSet) (outs : List Reg) → length regs ≡ length outs → length outs ≤ length sets
-    → list_all (suits_output isa problem item) (enumerate_from k (zip (zip regs sets) outs)) ≡ true
+own-registers : (problem : Problem) (item k : ℕ) (regs : List Reg) (sets : List RegSet) (outs : List Reg) → length regs ≡ length outs → length outs ≤ length sets
+    → list_all (suits_output problem item) (enumerate_from k (zip (zip regs sets) outs)) ≡ true
     → list_all (λ x. is_final_in problem x.1 (Item item x.0)) (enumerate_from k outs) ≡ true
     → regs ≡ outs
-own-registers isa problem item k [] sets [] same few suits finals = refl
-own-registers isa problem item k [] sets (o ∷ outs) same few suits finals = absurd (omega arith)
-own-registers isa problem item k (r ∷ regs) sets [] same few suits finals = absurd (omega arith)
-own-registers isa problem item k (r ∷ regs) [] (o ∷ outs) same few suits finals = absurd (omega arith)
-own-registers isa problem item k (r ∷ regs) (set ∷ sets) (o ∷ outs) same few suits finals =
+own-registers problem item k [] sets [] same few suits finals = refl
+own-registers problem item k [] sets (o ∷ outs) same few suits finals = absurd (omega arith)
+own-registers problem item k (r ∷ regs) sets [] same few suits finals = absurd (omega arith)
+own-registers problem item k (r ∷ regs) [] (o ∷ outs) same few suits finals = absurd (omega arith)
+own-registers problem item k (r ∷ regs) (set ∷ sets) (o ∷ outs) same few suits finals =
     let value : Source = Item item k in
-    let s = and_parts (suits_output isa problem item (k, ((r, set), o))) (list_all (suits_output isa problem item) (enumerate_from (k + 1) (zip (zip regs sets) outs))) suits in
+    let s = and_parts (suits_output problem item (k, ((r, set), o))) (list_all (suits_output problem item) (enumerate_from (k + 1) (zip (zip regs sets) outs))) suits in
     let f = and_parts (is_final_in problem o value) (list_all (λ x. is_final_in problem x.1 (Item item x.0)) (enumerate_from (k + 1) outs)) finals in
-    let p1 = and_parts (set_has (allowed_in problem item) r) (set_has set r && (suits_readers isa problem value r && (suits_finals problem value r && same_bool (is_flags o) (is_flags r)))) s.0 in
-    let p2 = and_parts (set_has set r) (suits_readers isa problem value r && (suits_finals problem value r && same_bool (is_flags o) (is_flags r))) p1.1 in
-    let p3 = and_parts (suits_readers isa problem value r) (suits_finals problem value r && same_bool (is_flags o) (is_flags r)) p2.1 in
+    let p1 = and_parts (set_has (allowed_in problem item) r) (set_has set r && (suits_readers problem value r && (suits_finals problem value r && same_bool (is_flags o) (is_flags r)))) s.0 in
+    let p2 = and_parts (set_has set r) (suits_readers problem value r && (suits_finals problem value r && same_bool (is_flags o) (is_flags r))) p1.1 in
+    let p3 = and_parts (suits_readers problem value r) (suits_finals problem value r && same_bool (is_flags o) (is_flags r)) p2.1 in
     let p4 = and_parts (suits_finals problem value r) (same_bool (is_flags o) (is_flags r)) p3.1 in
     let head : r ≡ o = final-same value o r problem.finals f.0 p4.0 in
-    let rest : regs ≡ outs = own-registers isa problem item (k + 1) regs sets outs (omega arith) (omega arith) s.1 f.1 in
+    let rest : regs ≡ outs = own-registers problem item (k + 1) regs sets outs (omega arith) (omega arith) s.1 f.1 in
     λ i. head i ∷ rest i
 
-module _ (isa : Isa) (problem : Problem) (listable : IsListable isa problem) where
+module _ (problem : Problem) (listable : IsListable problem) where
   -- an item of the order is one of the problem
-  pub known-item : (item : ℕ) → stands_in item problem.order ≡ true → item < length problem.items
+  pub known-item : (item : ℕ) → stands_in item problem.graph.order ≡ true → item < length problem.graph.items
   known-item item stands =
-      from-numbers (length problem.items) item (subst (Has item) listable.order (standing-has item problem.order stands))
+      from-numbers (length problem.graph.items) item (subst (Has item) listable.order (standing-has item problem.graph.order stands))
 
   -- the registers of a legal choice are the item's own
-  pub forced-registers : (done : List Choice) (c : Choice) → IsLegalNext isa problem done c → chosen c ≡ outputs (item_at problem.items c.item)
+  pub forced-registers : (done : List Choice) (c : Choice) → IsLegalNext problem done c → chosen c ≡ outputs (item_at problem.graph.items c.item)
   forced-registers done c legal =
-      let i : Instr = item_at problem.items c.item in
-      let valid : IsValid isa i = listable.testable.valid c.item (known-item c.item legal.of.known) in
-      let count : length (outputs i) ≡ set_count (isa.info i.form).out_sets = valid.output_count in
-      let bound : set_count (isa.info i.form).out_sets ≤ length (isa.info i.form).out_sets = set_count-bound (isa.info i.form).out_sets in
-      let l4 = and_parts (list_all (suits_output isa problem c.item) (output_classes isa problem c)) (all_differ (chosen c)) (keeps_rules isa problem done c legal.rules).l4 in
-      own-registers isa problem c.item 0 (chosen c) (isa.info i.form).out_sets (outputs i) legal.of.outputs_given (omega arith) l4.0
-      (standing-passes (are_outputs_final problem) problem.order c.item listable.forced legal.of.known)
+      let i : Instr = item_at problem.graph.items c.item in
+      let classes : length (outputs i) ≤ length (info_in problem c.item).out_sets = listable.classes c.item (known-item c.item legal.of.known) in
+      let l4 = and_parts (list_all (suits_output problem c.item) (output_classes problem c)) (all_differ (chosen c)) (keeps_rules problem done c legal.rules).l4 in
+      own-registers problem c.item 0 (chosen c) (info_in problem c.item).out_sets (outputs i) legal.of.outputs_given (omega arith) l4.0
+      (standing-passes (are_outputs_final problem) problem.graph.order c.item listable.forced legal.of.known)
 
   -- so a legal choice is the item's own choice
-  pub forced-choice : (done : List Choice) (c : Choice) → IsLegalNext isa problem done c → c ≡ own_choice problem c.item c.unit
+  pub forced-choice : (done : List Choice) (c : Choice) → IsLegalNext problem done c → c ≡ own_choice problem c.item c.unit
   forced-choice done c legal =
-      let i : Instr = item_at problem.items c.item in
-      let valid : IsValid isa i = listable.testable.valid c.item (known-item c.item legal.of.known) in
-      let outs : c.outs ≡ i.outs = legal.of.shape ∙ ap (padded 3) (forced-registers done c legal) ∙ sym valid.outs_shape in
+      let i : Instr = item_at problem.graph.items c.item in
+      let outs : c.outs ≡ i.outs = legal.of.shape ∙ ap (padded 3) (forced-registers done c legal) ∙ sym (listable.places c.item (known-item c.item legal.of.known)) in
       ap (λ outs. record { item = c.item; unit = c.unit; outs = outs }) outs
 
   -- an item's own choice is of the problem
-  pub own-of : (item unit : ℕ) → item < length problem.items → IsOf problem (own_choice problem item unit)
+  pub own-of : (item unit : ℕ) → item < length problem.graph.items → IsOf problem (own_choice problem item unit)
   own-of item unit known = record {
-    known = subst (λ order. stands_in item order ≡ true) (sym listable.order) (has-standing item (numbers_below (length problem.items)) (has-numbers (length problem.items) item known));
-    shape = (listable.testable.valid item known).outs_shape;
+    known = subst (λ order. stands_in item order ≡ true) (sym listable.order) (has-standing item (numbers_below (length problem.graph.items)) (has-numbers (length problem.graph.items) item known));
+    shape = listable.places item known;
     outputs_given = refl;
   }
 
   -- a legal choice is reduced: none of its outputs is free to choose
-  pub forced-reduced : (done : List Choice) (c : Choice) → IsLegalNext isa problem done c → IsReducedNext isa problem done c
+  pub forced-reduced : (done : List Choice) (c : Choice) → IsLegalNext problem done c → IsReducedNext problem done c
   forced-reduced done c legal = record { least = λ place r other at free same could. absurd (never place r at free) }
     where
       -- a value that is final in a register is final
@@ -119,17 +113,17 @@ module _ (isa : Isa) (problem : Problem) (listable : IsListable isa problem) whe
           let sum : k + 1 + place ≡ k + suc place = omega arith in
           subst (λ n. p (n, r) ≡ true) sum (place-passes p (k + 1) place r regs at parts.1)
 
-      never : (place : ℕ) (r : Reg) → slice_get (chosen c) place ≡ Some r → is_free_output isa problem c (place, r) ≡ true → ⊥
+      never : (place : ℕ) (r : Reg) → slice_get (chosen c) place ≡ Some r → is_free_output problem c (place, r) ≡ true → ⊥
       never place r at free =
-          let finals = standing-passes (are_outputs_final problem) problem.order c.item listable.forced legal.of.known in
-          let own : slice_get (outputs (item_at problem.items c.item)) place ≡ Some r = subst (λ regs. slice_get regs place ≡ Some r) (forced-registers done c legal) at in
-          let there : is_final_in problem r (Item c.item (0 + place)) ≡ true = place-passes (λ x. is_final_in problem x.1 (Item c.item x.0)) 0 place r (outputs (item_at problem.items c.item)) own finals in
+          let finals = standing-passes (are_outputs_final problem) problem.graph.order c.item listable.forced legal.of.known in
+          let own : slice_get (outputs (item_at problem.graph.items c.item)) place ≡ Some r = subst (λ regs. slice_get regs place ≡ Some r) (forced-registers done c legal) at in
+          let there : is_final_in problem r (Item c.item (0 + place)) ≡ true = place-passes (λ x. is_final_in problem x.1 (Item c.item x.0)) 0 place r (outputs (item_at problem.graph.items c.item)) own finals in
           let sum : 0 + place ≡ place = omega arith in
           let final : is_final_output problem c.item place ≡ true = final-somewhere (Item c.item place) r problem.finals (subst (λ n. is_final_in problem r (Item c.item n) ≡ true) sum there) in
-          let parts = and_parts (not (is_final_output problem c.item place)) (not (is_tied_output isa problem c.item place) && not (is_flags r)) free in
+          let parts = and_parts (not (is_final_output problem c.item place)) (not (is_tied_output problem c.item place) && not (is_flags r)) free in
           both_ways (is_final_output problem c.item place) (not-true (is_final_output problem c.item place) parts.0) final
 
   -- and so are the choices of a legal list
-  pub forced-reduced_from : (done rest : List Choice) → IsLegalFrom isa problem done rest → IsReducedFrom isa problem done rest
+  pub forced-reduced_from : (done rest : List Choice) → IsLegalFrom problem done rest → IsReducedFrom problem done rest
   forced-reduced_from done [] legal = tt
   forced-reduced_from done (c ∷ rest) legal = (forced-reduced done c legal.0, forced-reduced_from (c ∷ done) rest legal.1)

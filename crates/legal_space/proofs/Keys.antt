@@ -7,7 +7,8 @@ use Rattle.std.proofs.lemmas.Bool.{le-ltb, ne_eqb, eq-eqb, cond-false, cond-true
 use Rattle.sl_model.specs.declared.schedule.Choice.{Choice}
 use Rattle.sl_model.specs.RegSets.{bit_of}
 use Rattle.sl_model.specs.Body.{chosen}
-use Rattle.sl_model.specs.Legal.{Problem, keeps_l6, numbers_below}
+use Rattle.sl_model.specs.Source.{numbers_below}
+use Rattle.sl_model.specs.Legal.{Problem, keeps_l6}
 use Rattle.sl_model.specs.Space.{choice_key, schedule_key, comes_before}
 use Rattle.legal_space.specs.Listing.{own_choice, choices_below, own_choices, all_choices}
 use Rattle.sl_laws.proofs.Members.{Ordered, from-filter, from-map, ordered-filter, ordered-flat_map, ordered-map, ordered-numbers}

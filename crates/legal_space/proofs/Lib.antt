@@ -5,6 +5,8 @@ pub mod Keys
 pub mod ListingLemmas
 pub mod LoopSteps
 pub mod PlacedLemmas
+pub mod PlacedSets
+pub mod Standing
 pub mod StraightLemmas
 pub mod TimesLemmas
 pub mod Units

@@ -1,40 +1,11 @@
 -- Loops that go down a list, and what each turn leaves to test.
-use Rattle.std.proofs.Common.{◌≡◌, ℕ, ◌+◌, ◌<◌, ◌≤◌, ◌==◌, ◌&&◌, not, Bool, true, false, List, [], ◌∷◌, drop, length, get_or, Option, None, Some, refl, sym, ap, ◌∙◌}
-use Rattle.std.proofs.lemmas.List.{at_drop_more, at_drop_all}
-use Rattle.std.specs.List.{list_all, list_any, filter_map}
+use Rattle.std.proofs.Common.{◌≡◌, ℕ, ◌+◌, ◌<◌, ◌&&◌, not, Bool, true, List, [], ◌∷◌, drop, length, get_or, Option, None, Some, refl, sym, ap, ◌∙◌}
+use Rattle.std.proofs.lemmas.List.{at_drop_more}
+use Rattle.std.specs.List.{list_any, filter_map}
 use Rattle.sl_model.specs.declared.register.Reg.{Reg}
 use Rattle.sl_model.specs.Register.{same_reg}
-use Rattle.sl_model.specs.Body.{above, all_differ}
-use Rattle.sl_laws.proofs.Orders.{above-first, above-later}
+use Rattle.sl_model.specs.Body.{all_differ}
 use Rattle.sl_laws.proofs.Registers.{place_from-among}
-
-module _ (f : ℕ → Bool) (item : ℕ) where
-  -- an item above that passes leaves the test to the rest
-  pub above-next : (order : List ℕ) (i : ℕ) (whole : Bool) → i < length order → (get_or order i 0 == item) ≡ false → f (get_or order i 0) ≡ true
-      → list_all f (above item (drop i order)) ≡ whole → list_all f (above item (drop (i + 1) order)) ≡ whole
-  above-next order i whole within other passes is =
-      sym (at_drop_more (λ xs. list_all f (above item xs)) order i 0 within
-      ∙ ap (list_all f) (above-later (get_or order i 0) item (drop (i + 1) order) other)
-      ∙ ap (λ b. b && list_all f (above item (drop (i + 1) order))) passes) ∙ is
-
-  -- one that fails decides
-  pub above-broken : (order : List ℕ) (i : ℕ) (whole : Bool) → i < length order → (get_or order i 0 == item) ≡ false → f (get_or order i 0) ≡ false
-      → list_all f (above item (drop i order)) ≡ whole → false ≡ whole
-  above-broken order i whole within other fails is =
-      sym (at_drop_more (λ xs. list_all f (above item xs)) order i 0 within
-      ∙ ap (list_all f) (above-later (get_or order i 0) item (drop (i + 1) order) other)
-      ∙ ap (λ b. b && list_all f (above item (drop (i + 1) order))) fails) ∙ is
-
-  -- the item itself ends the test
-  pub above-found : (order : List ℕ) (i : ℕ) (whole : Bool) → i < length order → (get_or order i 0 == item) ≡ true
-      → list_all f (above item (drop i order)) ≡ whole → true ≡ whole
-  above-found order i whole within found is =
-      sym (at_drop_more (λ xs. list_all f (above item xs)) order i 0 within
-      ∙ ap (list_all f) (above-first (get_or order i 0) item (drop (i + 1) order) found)) ∙ is
-
-  pub above-end : (order : List ℕ) (i : ℕ) (whole : Bool) → length order ≤ i → list_all f (above item (drop i order)) ≡ whole → true ≡ whole
-  unfolding above
-  above-end order i whole past is = sym (at_drop_all (λ xs. list_all f (above item xs)) order i past) ∙ is
 
 -- the outputs among places
 abbrev pub regs_of : List (Option Reg) → List Reg

@@ -1,16 +1,15 @@
 -- A schedule issued choice by choice: when operands are ready, the latest cycle of each item, and one more choice.
-use Rattle.std.proofs.Common.{◌≡◌, ◌≢◌, ℕ, zero, suc, ◌+◌, ◌*◌, ◌<◌, ◌≤◌, true, false, eqb, List, [], ◌∷◌, length, take, drop, reverse, replicate, set, get_or, max, nat_lt, nat_le, ◌&&◌, IsTrue, EachIndex, refl, sym, ◌∙◌, ap, ap₂, subst, ⊎_elim, arith}
-use Rattle.std.proofs.lemmas.Bool.{cases_Bool, eqb-true, eqb-false, ltb-true, leb-true, and_parts}
+use Rattle.std.proofs.Common.{◌≡◌, ◌≢◌, ℕ, ◌+◌, ◌*◌, ◌<◌, ◌≤◌, true, false, eqb, List, [], ◌∷◌, length, take, drop, reverse, replicate, set, get_or, max, nat_lt, ◌&&◌, IsTrue, EachIndex, refl, sym, ◌∙◌, ap, ap₂, subst, ⊎_elim, arith}
+use Rattle.std.proofs.lemmas.Bool.{cases_Bool, eqb-true, eqb-false, ltb-true, and_parts}
 use Rattle.std.proofs.lemmas.List.{drop_all, drop_more, length-set, length-replicate, get_or-set_same, get_or-set_other, get_or-replicate}
 use Rattle.std.specs.List.{list_all}
 use Rattle.std.proofs.lemmas.List.Folds.{list_all_at}
 use Rattle.sl_model.specs.declared.schedule.Choice.{Choice}
 use Rattle.sl_model.specs.declared.schedule.Source.{Source}
 use Rattle.sl_model.specs.Cycles.{CostTable, Issued, timed_from, cycle_of, row_of, ready_at, ready_from, next_cycle}
-use Rattle.sl_model.specs.Legal.{Problem, sources_in}
-use Rattle.legal_space.specs.Above.{HasCycles}
-use Rattle.legal_space.specs.Listing.{is_known, are_known_sources}
-use Rattle.legal_space.specs.Timed.{is_known_source, HasKnownSources}
+use Rattle.sl_model.specs.Legal.{Problem}
+use Rattle.legal_space.specs.Timed.{HasCycles}
+use Rattle.legal_space.specs.Listing.{is_known}
 use Rattle.sl_laws.proofs.Elements.{reverse_take-more}
 
 -- what one operand waits for and what those behind it wait for, taken one after the other
@@ -116,29 +115,15 @@ item-known items schedule k d known within =
     cc)
     (cases_Bool (nat_lt (get_or schedule k d).item items))
 
--- the sources of an item are known where those of all are
-known-at : (count : ℕ) (sources : List (List Source)) (p : ℕ) → list_all (are_known_sources count) sources ≡ true → are_known_sources count (get_or sources p []) ≡ true
-known-at count [] p all = refl
-known-at count (s ∷ sources) zero all = (and_parts (are_known_sources count s) (list_all (are_known_sources count) sources) all).0
-known-at count (s ∷ sources) (suc p) all = known-at count sources p (and_parts (are_known_sources count s) (list_all (are_known_sources count) sources) all).1
-
-pub known_sources : (problem : Problem) → list_all (are_known_sources (length problem.items)) problem.sources ≡ true → HasKnownSources problem
-known_sources problem all =
-    let at = λ (item : ℕ). and_parts (nat_le (length (sources_in problem item)) 4) (list_all (is_known_source (length problem.items)) (sources_in problem item)) (known-at (length problem.items) problem.sources item all) in
-    record {
-      few = λ item. let few : length (sources_in problem item) ≤ 4 = leb-true (length (sources_in problem item)) 4 (at item).0 in omega arith;
-      known = λ item. (at item).1;
-    }
-
 -- known choices are of items of the problem, and of units below 16
-pub known_items : (problem : Problem) (choices : List Choice) → list_all (is_known problem) choices ≡ true → IsTrue (list_all (λ c. nat_lt c.item (length problem.items)) choices)
+pub known_items : (problem : Problem) (choices : List Choice) → list_all (is_known problem) choices ≡ true → IsTrue (list_all (λ c. nat_lt c.item (length problem.graph.items)) choices)
 known_items problem [] all = refl
 known_items problem (c ∷ choices) all =
     let parts = and_parts (is_known problem c) (list_all (is_known problem) choices) all in
-    ap₂ (λ a b. a && b) (and_parts (nat_lt c.item (length problem.items)) (nat_lt c.unit 16) parts.0).0 (known_items problem choices parts.1)
+    ap₂ (λ a b. a && b) (and_parts (nat_lt c.item (length problem.graph.items)) (nat_lt c.unit 16) parts.0).0 (known_items problem choices parts.1)
 
 pub known_units : (problem : Problem) (choices : List Choice) → list_all (is_known problem) choices ≡ true → IsTrue (list_all (λ c. nat_lt c.unit 16) choices)
 known_units problem [] all = refl
 known_units problem (c ∷ choices) all =
     let parts = and_parts (is_known problem c) (list_all (is_known problem) choices) all in
-    ap₂ (λ a b. a && b) (and_parts (nat_lt c.item (length problem.items)) (nat_lt c.unit 16) parts.0).1 (known_units problem choices parts.1)
+    ap₂ (λ a b. a && b) (and_parts (nat_lt c.item (length problem.graph.items)) (nat_lt c.unit 16) parts.0).1 (known_units problem choices parts.1)

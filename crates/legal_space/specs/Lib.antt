@@ -1,4 +1,2 @@
-pub mod Above
 pub mod Listing
-pub mod Testable
 pub mod Timed

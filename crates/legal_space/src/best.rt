@@ -2,7 +2,7 @@
 ghost use Rattle.std.specs.Prelude.{◌≡◌, ◌+◌, ◌<◌, ◌≤◌, true, [], length, OnOk};
 ghost use Rattle.std.specs.List.{list_all};
 ghost use Rattle.legal_space.specs.Listing.{better, is_known};
-ghost use Rattle.legal_space.specs.Timed.{HasKnownSources};
+ghost use Rattle.sl_model.specs.declared.limits.TheConstants.{LISTED};
 
 use crate::problem::Problem;
 use crate::times::times_of;
@@ -47,9 +47,7 @@ impl Best {
         problem: &Problem,
         schedule: &[Choice],
     ) -> Result<(), NoMemory>
-        requires few { length schedule.now ≤ 8 }
-        requires rows { length problem.now.costs.rows ≡ length problem.now.items }
-        requires sources { HasKnownSources problem.now }
+        requires few { length schedule.now ≤ LISTED }
         requires known { list_all (is_known problem.now) schedule.now ≡ true }
         ensures { OnOk result (self.new ≡ better problem.now self.old schedule.now) }
     {

@@ -10,7 +10,6 @@ pub use sl_model::schedule::{Choice, Source};
 pub use straight::written;
 pub use times::{Times, times_of};
 
-mod accesses;
 mod best;
 mod listing;
 mod operands;
@@ -19,6 +18,5 @@ mod placed;
 mod problem;
 mod registers;
 mod rules;
-pub mod sources;
 mod straight;
 mod times;

@@ -6,40 +6,37 @@ ghost use Rattle.sl_model.specs.RegSets.{set_has};
 ghost use Rattle.sl_model.specs.declared.schedule.Source.TheVariants.{Item};
 ghost use Rattle.sl_model.specs.Body.{all_differ, is_placed, same_source};
 ghost use Rattle.sl_model.specs.Legal.{sources_in, suits_readers, suits_finals, suits_output, output_classes, is_final_in, is_still_read, may_overwrite, keeps_l4, keeps_l7};
-ghost use Rattle.legal_space.specs.Testable.{IsTestable};
 
-use crate::operands::{info_of, item_of};
-use crate::placed::{held, is_output, is_placed, same_source};
+use crate::placed::{held, is_placed};
 use crate::problem::Problem;
 use crate::registers::are_alike;
+use dataflow::sources::{is_output, same_source};
+use sl_isa::same_reg;
 use sl_isa::sets::set_has;
-use sl_isa::{Arch, same_reg};
 use sl_model::register::{Reg, RegSet};
 use sl_model::schedule::{Choice, Source};
 
 /// L4: each output's register is allowed for the item, of the output's class and of the
 /// class of each operand that reads it; the outputs differ; a final value is in its final
 /// register; the flags are in flags.
-pub fn keeps_l4<A: Arch>(arch: &A, problem: &Problem, choice: &Choice) -> bool
-    requires testable { IsTestable A.language.isa problem.now }
-    requires known { choice.now.item < length problem.now.items }
-    ensures { result ≡ keeps_l4 A.language.isa problem.now choice.now }
+pub fn keeps_l4(problem: &Problem, choice: &Choice) -> bool
+    requires known { choice.now.item < length problem.now.graph.items }
+    ensures { result ≡ keeps_l4 problem.now choice.now }
 {
-    if !suit_outputs(arch, problem, choice) {
+    if !suit_outputs(problem, choice) {
         return false;
     }
     all_differ(&choice.outs)
 }
 
 // May all outputs go to their registers, as far as sets and finals say?
-fn suit_outputs<A: Arch>(arch: &A, problem: &Problem, choice: &Choice) -> bool
-    requires testable { IsTestable A.language.isa problem.now }
-    requires known { choice.now.item < length problem.now.items }
-    ensures { result ≡ list_all (suits_output A.language.isa problem.now choice.now.item)
-        (output_classes A.language.isa problem.now choice.now) }
+fn suit_outputs(problem: &Problem, choice: &Choice) -> bool
+    requires known { choice.now.item < length problem.now.graph.items }
+    ensures { result ≡ list_all (suits_output problem.now choice.now.item)
+        (output_classes problem.now choice.now) }
 {
-    let info = info_of(arch, problem, choice.item);
-    let own = item_of(problem, choice.item);
+    let info = problem.info(choice.item);
+    let own = problem.item(choice.item);
     choice
         .outs
         .iter()
@@ -48,22 +45,13 @@ fn suit_outputs<A: Arch>(arch: &A, problem: &Problem, choice: &Choice) -> bool
         .zip(own.outs.iter().filter_map(|out| *out))
         .enumerate()
         .all(|(place, ((reg, set), own))| {
-            suits_output(arch, problem, choice.item, place, reg, *set, own)
+            suits_output(problem, choice.item, place, reg, *set, own)
         })
 }
 
 // May the output at a place, of a class and with its original register, go to a register?
-fn suits_output<A: Arch>(
-    arch: &A,
-    problem: &Problem,
-    item: u16,
-    place: usize,
-    reg: Reg,
-    set: RegSet,
-    own: Reg,
-) -> bool
-    requires testable { IsTestable A.language.isa problem.now }
-    ensures { result ≡ suits_output A.language.isa problem.now item (place, ((reg, set), own)) }
+fn suits_output(problem: &Problem, item: u16, place: usize, reg: Reg, set: RegSet, own: Reg) -> bool
+    ensures { result ≡ suits_output problem.now item (place, ((reg, set), own)) }
 {
     if !set_has(problem.allowed_for(item), reg) {
         return false;
@@ -71,7 +59,7 @@ fn suits_output<A: Arch>(
     if !set_has(set, reg) {
         return false;
     }
-    if !suits_readers(arch, problem, item, place, reg) {
+    if !suits_readers(problem, item, place, reg) {
         return false;
     }
     if !suits_finals(problem, item, place, reg) {
@@ -81,13 +69,12 @@ fn suits_output<A: Arch>(
 }
 
 // Is a register of the class of each operand that reads an output?
-fn suits_readers<A: Arch>(arch: &A, problem: &Problem, item: u16, place: usize, reg: Reg) -> bool
-    requires testable { IsTestable A.language.isa problem.now }
-    ensures { result ≡ suits_readers A.language.isa problem.now (Item item place) reg }
+fn suits_readers(problem: &Problem, item: u16, place: usize, reg: Reg) -> bool
+    ensures { result ≡ suits_readers problem.now (Item item place) reg }
 {
     let order = problem.order();
     for reader in order {
-        let info = info_of(arch, problem, *reader);
+        let info = problem.info(*reader);
         if !suits_operands(problem.sources_of(*reader), &info.in_sets, item, place, reg) {
             return false;
         }

@@ -1,12 +1,15 @@
 //! What the choices made so far have done. They stand in the order in which they were made.
 ghost use Rattle.std.specs.Prelude.{◌≡◌, ◌==◌, ℕ, ◌≤◌, reverse, length, slice_get, is_some};
-ghost use Rattle.std.specs.List.{find, filter_map, list_any};
+ghost use Rattle.std.specs.List.{find, filter_map, list_all, list_any};
 ghost use Rattle.std.specs.Option.{option_copied};
 ghost use Rattle.sl_model.specs.declared.schedule.Source.TheVariants.{Entry, Item};
 ghost use Rattle.sl_model.specs.Source.{place_from};
 ghost use Rattle.sl_model.specs.Body.{chosen, is_placed, held, placed_in, given, same_source, holds_in, is_still_held};
 
-use sl_isa::{place_among, same_reg};
+use dataflow::ItemSet;
+use dataflow::sources::same_source;
+use sl_isa::place_among;
+use sl_model::limits::SET_ITEMS;
 use sl_model::register::Reg;
 use sl_model::schedule::{Choice, Source};
 
@@ -17,41 +20,27 @@ pub fn is_placed(done: &[Choice], item: u16) -> bool
     has_choice(done, item)
 }
 
+/// Were all items of a set placed?
+pub fn are_placed(done: &[Choice], items: &ItemSet) -> bool
+    ensures { result ≡ list_all (is_placed (reverse done.now)) items.now }
+{
+    items.is_ascending();
+    for item in 0..SET_ITEMS as u16 {
+        if !items.contains(item) {
+            continue;
+        }
+        if !is_placed(done, item) {
+            return false;
+        }
+    }
+    true
+}
+
 // Is a choice of an item among these?
 fn has_choice(choices: &[Choice], item: u16) -> bool
     ensures { result ≡ list_any (λ c. c.item == item) choices.now }
 {
     choices.iter().any(|choice| choice.item == item)
-}
-
-/// Are these the same source?
-pub fn same_source(a: Source, b: Source) -> bool
-    ensures { result ≡ same_source a b }
-{
-    match a {
-        Source::Entry(reg) => is_entry(b, reg),
-        Source::Item { index, place } => is_output(b, index, usize::from(place)),
-    }
-}
-
-// Is a source what this register held before the first item?
-fn is_entry(source: Source, reg: Reg) -> bool
-    ensures { result ≡ same_source (Entry reg) source }
-{
-    match source {
-        Source::Entry(entry) => same_reg(reg, entry),
-        Source::Item { .. } => false,
-    }
-}
-
-/// Is a source the output at a place of an item?
-pub fn is_output(source: Source, item: u16, place: usize) -> bool
-    ensures { result ≡ same_source source (Item item place) }
-{
-    match source {
-        Source::Entry(_) => false,
-        Source::Item { index, place: at } => index == item && usize::from(at) == place,
-    }
 }
 
 /// What a register holds: the last output placed in it, or what it held before.

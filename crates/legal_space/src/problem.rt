@@ -1,19 +1,24 @@
 //! A problem of scheduling as a value.
-ghost use Rattle.std.specs.Prelude.{◌≡◌, ◌<◌, map, length};
-ghost use Rattle.sl_model.specs.Legal.{sources_in, allowed_in};
+ghost use Rattle.std.specs.Prelude.{◌≡◌, ℕ, ◌<◌, ◌≤◌, length, slice_index, IfOk, IsTrue};
+ghost use Rattle.std.specs.List.{list_all};
+ghost use Rattle.sl_model.specs.Source.{item_at};
+ghost use Rattle.sl_model.specs.Legal.{sources_in, info_in, allowed_in};
+ghost use Rattle.sl_model.specs.declared.limits.TheConstants.{ITEMS};
+ghost use Rattle.legal_space.specs.Timed.{is_known_source};
 
+use dataflow::Graph;
 use issue_cost::Costs;
-use sl_model::instruction::Instr;
+use sl_base::NoMemory;
+use sl_model::instruction::{FormInfo, Instr};
 use sl_model::register::{Reg, RegSet};
 use sl_model::schedule::Source;
+use std::alloc::{AllocError, Global};
 use std::marker::Model;
 
 /// Items to schedule. Items are named by their places in the list, from 0.
 #[derive(Drop)]
 pub struct Problem {
-    items: Vec<Instr>,
-    order: Vec<u16>,
-    sources: Vec<Vec<Source>>,
+    graph: Graph,
     finals: Vec<(Reg, Source)>,
     allowed: Vec<RegSet>,
     costs: Costs,
@@ -21,76 +26,103 @@ pub struct Problem {
 }
 
 impl Model for Problem {
-    ghost use Rattle.std.specs.Prelude.{map};
+    ghost use Rattle.std.specs.Prelude.{◌≡◌, length};
     ghost use Rattle.sl_model.specs.Legal.{Problem};
 
     ghost Value = { Problem };
 
     ghost view = { λ a. record {
-      items = a.items.items;
-      order = a.order.items;
-      sources = map (λ v. v.items) a.sources.items;
+      graph = a.graph;
       finals = a.finals.items;
       allowed = a.allowed.items;
       costs = a.costs;
       looped = a.looped;
     } };
+
+    ghost invariant = { λ a. length a.costs.rows ≡ length a.graph.items };
 }
 
 impl Problem {
-    /// A problem of these parts: the items, the order in which they stand, the sources of each
-    /// item's operands, the registers with the value that must stand in them at the end, the
-    /// registers that each item may write, what the items cost, and whether they are the body
-    /// of a loop. It takes no memory.
-    pub fn of_parts(
-        items: Vec<Instr>,
-        order: Vec<u16>,
-        sources: Vec<Vec<Source>>,
-        finals: Vec<(Reg, Source)>,
-        allowed: Vec<RegSet>,
-        costs: Costs,
+    /// A problem of the items of a graph: the registers with the value that must stand in them at
+    /// the end, the registers that each item may write, a row for each item of what it costs, and
+    /// whether the items are the body of a loop. It copies what it keeps.
+    pub fn new(
+        alloc: Global,
+        graph: &Graph,
+        finals: &[(Reg, Source)],
+        allowed: &[RegSet],
+        costs: &Costs,
         looped: bool,
-    ) -> Problem
-        ensures { result ≡ record {
-          items = items.items;
-          order = order.items;
-          sources = map (λ v. v.items) sources.items;
-          finals = finals.items;
-          allowed = allowed.items;
-          costs = costs;
+    ) -> Result<Problem, NoMemory>
+        requires rows { length costs.now.rows ≡ length graph.now.items }
+        ensures { IfOk result (λ problem. problem ≡ record {
+          graph = graph.now;
+          finals = finals.now;
+          allowed = allowed.now;
+          costs = costs.now;
           looped = looped;
-        } }
+        }) }
     {
-        Problem {
-            items,
-            order,
-            sources,
+        let graph = graph.copy(alloc)?;
+        let finals = Vec::from_slice(alloc, finals).map_err(AllocError::from)?;
+        let allowed = Vec::from_slice(alloc, allowed).map_err(AllocError::from)?;
+        let costs = costs.copy(alloc)?;
+        Ok(Problem {
+            graph,
             finals,
             allowed,
             costs,
             looped,
-        }
+        })
     }
 
-    /// The number of items.
+    /// The number of items, at most 64, for each of which there is a row of what it costs.
     pub fn len(&self) -> usize
-        ensures { result ≡ length self.now.items }
+        ensures len { result ≡ length self.now.graph.items }
+        ensures few { result ≤ ITEMS }
+        ensures rows { length self.now.costs.rows ≡ length self.now.graph.items }
     {
-        self.items.len()
+        self.graph.len()
+    }
+
+    /// The graph of the items.
+    pub fn graph(&self) -> &Graph
+        ensures { result.now ≡ self.now.graph }
+    {
+        &self.graph
     }
 
     /// The items.
     pub fn items(&self) -> &[Instr]
-        ensures { result.now ≡ self.now.items }
+        ensures { result.now ≡ self.now.graph.items }
     {
-        &self.items
+        self.graph.items()
+    }
+
+    /// An item.
+    pub fn item(&self, item: u16) -> &Instr
+        requires { item < length self.now.graph.items }
+        ensures { result.now ≡ item_at self.now.graph.items item }
+    {
+        self.graph.item(item)
+    }
+
+    /// What the table says of an item's form.
+    pub fn info(&self, item: u16) -> FormInfo
+        requires { item < length self.now.graph.items }
+        ensures { result ≡ info_in self.now item }
+    {
+        self.graph.info(item)
     }
 
     /// The numbers of the items in the order in which they stand.
     pub fn order(&self) -> &[u16]
-        ensures { result.now ≡ self.now.order }
+        ensures order { result.now ≡ self.now.graph.order }
+        ensures known { (k : ℕ) → k < length result.now
+            → slice_index result.now k < length self.now.graph.items }
     {
-        &self.order
+        self.graph.is_sound();
+        self.graph.order()
     }
 
     /// The registers with the value that must stand in them at the end.
@@ -112,18 +144,20 @@ impl Problem {
 
     /// What the items cost.
     pub fn costs(&self) -> &Costs
-        ensures { result.now ≡ self.now.costs }
+        ensures costs { result.now ≡ self.now.costs }
+        ensures rows { length result.now.rows ≡ length self.now.graph.items }
     {
         &self.costs
     }
 
     /// The sources of an item's operands, in their order; none where there is no such item.
     pub fn sources_of(&self, item: u16) -> &[Source]
-        ensures { result.now ≡ sources_in self.now item }
+        ensures sources { result.now ≡ sources_in self.now item }
+        ensures few { length result.now ≤ 4 }
+        ensures known { IsTrue
+            (list_all (is_known_source (length self.now.graph.items)) result.now) }
     {
-        match self.sources.get(usize::from(item)) {
-            Some(sources) => sources,
-            None => &[],
-        }
+        self.graph.is_sound();
+        self.graph.sources_of(item)
     }
 }

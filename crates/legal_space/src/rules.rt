@@ -3,44 +3,35 @@ ghost use Rattle.std.specs.Prelude.{◌≡◌, ◌==◌, ◌<◌, not, length, r
 ghost use Rattle.sl_model.specs.Body.{is_placed};
 ghost use Rattle.std.specs.Int.{bit_at};
 ghost use Rattle.sl_model.specs.Cycles.{row_of};
-ghost use Rattle.sl_model.specs.Legal.{keeps_l6, first_broken};
-ghost use Rattle.legal_space.specs.Testable.{IsTestable};
+ghost use Rattle.sl_model.specs.Legal.{keeps_l5, keeps_l6, first_broken};
 
-use crate::accesses::keeps_l5;
 use crate::operands::{keeps_l2, keeps_l3};
 use crate::outputs::{keeps_l4, keeps_l7};
-use crate::placed::is_placed;
+use crate::placed::{are_placed, is_placed};
 use crate::problem::Problem;
-use sl_isa::Arch;
 use sl_model::rules::Rule;
 use sl_model::schedule::Choice;
 
 /// The first rule that a choice breaks after those made so far, if it breaks one. The
 /// choice is of an item of the problem.
 #[tactic(auto, unfolding(sl_model::specs::Legal::first_broken))]
-pub fn first_broken<A: Arch>(
-    arch: &A,
-    problem: &Problem,
-    done: &[Choice],
-    choice: &Choice,
-) -> Option<Rule>
-    requires testable { IsTestable A.language.isa problem.now }
-    requires known { choice.now.item < length problem.now.items }
-    ensures { result ≡ first_broken A.language.isa problem.now (reverse done.now) choice.now }
+pub fn first_broken(problem: &Problem, done: &[Choice], choice: &Choice) -> Option<Rule>
+    requires known { choice.now.item < length problem.now.graph.items }
+    ensures { result ≡ first_broken problem.now (reverse done.now) choice.now }
 {
     if !keeps_l1(done, choice) {
         return Some(Rule::L1);
     }
-    if !keeps_l2(arch, problem, done, choice) {
+    if !keeps_l2(problem, done, choice) {
         return Some(Rule::L2);
     }
-    if !keeps_l3(arch, problem, done, choice) {
+    if !keeps_l3(problem, done, choice) {
         return Some(Rule::L3);
     }
-    if !keeps_l4(arch, problem, choice) {
+    if !keeps_l4(problem, choice) {
         return Some(Rule::L4);
     }
-    if !keeps_l5(arch, problem, done, choice) {
+    if !keeps_l5(problem, done, choice) {
         return Some(Rule::L5);
     }
     if !keeps_l6(problem, choice) {
@@ -59,9 +50,17 @@ fn keeps_l1(done: &[Choice], choice: &Choice) -> bool
     !is_placed(done, choice.item)
 }
 
+// L5: each item that stands above it and conflicts with it is placed.
+fn keeps_l5(problem: &Problem, done: &[Choice], choice: &Choice) -> bool
+    requires { choice.now.item < length problem.now.graph.items }
+    ensures { result ≡ keeps_l5 problem.now (reverse done.now) choice.now }
+{
+    are_placed(done, problem.graph().must_precede(choice.item))
+}
+
 // L6: the unit is one of the class's.
 fn keeps_l6(problem: &Problem, choice: &Choice) -> bool
-    requires { choice.now.item < length problem.now.costs.rows }
+    requires { choice.now.item < length problem.now.graph.items }
     ensures { result ≡ keeps_l6 problem.now choice.now }
 {
     has_unit(problem.costs().units(choice.item), choice.unit)

@@ -1,16 +1,19 @@
 //! The straight problem of a list of items.
 
-ghost use Rattle.std.specs.Prelude.{◌≡◌, ℕ, ◌<◌, ◌≤◌, [], ◌++◌, map, filter, not, length, slice_index_or, IfOk, OnOk};
+ghost use Rattle.std.specs.Prelude.{◌≡◌, ◌≤◌, ◌++◌, map, filter, not, length, IfOk, OnOk};
 ghost use Rattle.std.specs.List.{filter_map};
-ghost use Rattle.sl_model.specs.Source.{list_sources, last_source};
+ghost use Rattle.sl_model.specs.Source.{last_source};
 ghost use Rattle.sl_model.specs.RegSets.{set_of};
-ghost use Rattle.sl_model.specs.Legal.{numbers_below, written, straight_problem};
-ghost use Rattle.legal_space.specs.Timed.{HasKnownSources};
+ghost use Rattle.sl_model.specs.Lawful.{AreValid};
+ghost use Rattle.sl_model.specs.Legal.{written, straight_problem};
+ghost use Rattle.sl_model.specs.declared.limits.TheConstants.{ITEMS};
 
 use crate::problem::Problem;
-use crate::sources::source_of;
+use dataflow::Graph;
+use dataflow::sources::source_of;
 use issue_cost::Costs;
 use sl_base::NoMemory;
+use sl_isa::Arch;
 use sl_isa::sets::set_of;
 use sl_model::instruction::Instr;
 use sl_model::register::{Reg, RegSet};
@@ -18,73 +21,29 @@ use sl_model::schedule::Source;
 use std::alloc::{AllocError, Global};
 
 impl Problem {
-    /// The straight problem of items, at most 65535: its own order and sources; each
-    /// live register is final with its last writer; the registers that the items write,
-    /// and the free ones, are allowed.
-    pub fn straight(
+    /// The straight problem of items, at most 64: its own order and sources; each live register is
+    /// final with its last writer; the registers that the items write, and the free ones, are
+    /// allowed. There is a row in the costs for each item.
+    pub fn straight<A: Arch>(
+        arch: &A,
         alloc: Global,
-        items: Vec<Instr>,
+        items: &[Instr],
         live: &[Reg],
         free: &[Reg],
-        costs: Costs,
+        costs: &Costs,
     ) -> Result<Problem, NoMemory>
-        requires { length items.items ≤ 65535 }
-        ensures straight { IfOk result
-            (λ problem. problem ≡ straight_problem items.items live.now free.now costs) }
-        ensures sources { IfOk result (λ problem. HasKnownSources problem) }
+        requires few { length items.now ≤ ITEMS }
+        requires valid { AreValid A.language.isa items.now }
+        requires rows { length costs.now.rows ≡ length items.now }
+        ensures { IfOk result
+            (λ problem. problem
+            ≡ straight_problem A.language.isa items.now live.now free.now costs.now) }
     {
-        let order = numbers_below(alloc, items.len() as u16)?;
-        let sources = all_sources(alloc, &items)?;
-        let finals = finals_of(alloc, &items, live)?;
-        let allowed = allowed_of(alloc, &items, free)?;
-        Ok(Problem::of_parts(items, order, sources, finals, allowed, costs, false))
+        let graph = Graph::build(arch, alloc, items)?;
+        let finals = finals_of(alloc, items, live)?;
+        let allowed = allowed_of(alloc, items, free)?;
+        Problem::new(alloc, &graph, &finals, &allowed, costs, false)
     }
-}
-
-/// The numbers below a number.
-fn numbers_below(alloc: Global, end: u16) -> Result<Vec<u16>, NoMemory>
-    ensures { IfOk result (λ numbers. numbers.items ≡ numbers_below end) }
-{
-    let mut numbers = Vec::new(alloc);
-    for number in 0..end {
-        numbers.push(number).map_err(AllocError::from)?;
-    }
-    Ok(numbers)
-}
-
-/// The sources of the operands of the item at a place.
-#[tactic(auto, unfolding(sl_model::specs::Source::list_sources))]
-fn sources_at(alloc: Global, items: &[Instr], place: usize) -> Result<Vec<Source>, NoMemory>
-    requires place { place < length items.now }
-    requires few { length items.now ≤ 65535 }
-    ensures sources { IfOk result (λ sources. sources.items ≡ list_sources items.now place) }
-    ensures few { IfOk result (λ sources. length sources.items ≤ 4) }
-{
-    let above = &items[..place];
-    let sources = items[place]
-        .ins
-        .iter()
-        .filter_map(|register| *register)
-        .map(|register| source_of(above, register))
-        .collect(alloc)?;
-    Ok(sources)
-}
-
-/// The sources of the operands of each item.
-fn all_sources(alloc: Global, items: &[Instr]) -> Result<Vec<Vec<Source>>, NoMemory>
-    requires { length items.now ≤ 65535 }
-    ensures sources { IfOk result
-        (λ all. map (λ v. v.items) all.items
-        ≡ map (list_sources items.now) (numbers_below (length items.now))) }
-    ensures few { IfOk result
-        (λ all. (item : ℕ) → length (slice_index_or (map (λ v. v.items) all.items) item []) ≤ 4) }
-{
-    let mut all = Vec::new(alloc);
-    for place in 0..items.len() {
-        let sources = sources_at(alloc, items, place)?;
-        all.push(sources).map_err(AllocError::from)?;
-    }
-    Ok(all)
 }
 
 /// The live registers, each with its last writer.

@@ -6,8 +6,7 @@ ghost use Rattle.sl_model.specs.declared.schedule.Choice.{Choice};
 ghost use Rattle.sl_model.specs.Cycles.{Issued, issued, ready_at, ready_from, timed, cycles_of, cycle_count, stalls};
 ghost use Rattle.sl_model.specs.Legal.{sources_in};
 ghost use Rattle.sl_model.specs.Space.{stalls_of};
-ghost use Rattle.legal_space.specs.Above.{HasCycles};
-ghost use Rattle.legal_space.specs.Timed.{is_known_source, HasKnownSources};
+ghost use Rattle.legal_space.specs.Timed.{is_known_source, HasCycles};
 
 use crate::problem::Problem;
 use issue_cost::{Costs, Issue};
@@ -31,10 +30,8 @@ pub struct Times {
 /// the costs. An operand waits for no item that isn't issued yet. The only error is want of memory.
 pub fn times_of(alloc: Global, problem: &Problem, schedule: &[Choice]) -> Result<Times, NoMemory>
     requires few { length schedule.now ≤ 65536 }
-    requires rows { length problem.now.costs.rows ≡ length problem.now.items }
-    requires sources { HasKnownSources problem.now }
     requires known { IsTrue
-        (list_all (λ c. nat_lt c.item (length problem.now.items)) schedule.now) }
+        (list_all (λ c. nat_lt c.item (length problem.now.graph.items)) schedule.now) }
     requires units { IsTrue (list_all (λ c. nat_lt c.unit 16) schedule.now) }
     ensures cycles { IfOk result
         (λ times. times.cycles.items
@@ -66,13 +63,11 @@ fn issue_all(
     latest: &mut [u32],
 ) -> Result<Vec<u32>, NoMemory>
     requires few { length schedule.now ≤ 65536 }
-    requires rows { length problem.now.costs.rows ≡ length problem.now.items }
-    requires sources { HasKnownSources problem.now }
     requires known { IsTrue
-        (list_all (λ c. nat_lt c.item (length problem.now.items)) schedule.now) }
+        (list_all (λ c. nat_lt c.item (length problem.now.graph.items)) schedule.now) }
     requires units { IsTrue (list_all (λ c. nat_lt c.unit 16) schedule.now) }
     requires empty { issue.old ≡ record { pushes = []; room = length schedule.now } }
-    requires none { latest.old ≡ replicate (length problem.now.items) 0 }
+    requires none { latest.old ≡ replicate (length problem.now.graph.items) 0 }
     ensures cycles { IfOk result
         (λ cycles. cycles.items
         ≡ cycles_of (timed problem.now.costs (sources_in problem.now) schedule.now)) }

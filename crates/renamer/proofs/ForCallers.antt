@@ -1,4 +1,5 @@
 -- The lemmas that other crates cite.
 pub use Rattle.renamer.proofs.LegalityRules.{suits_operands}
 pub use Rattle.renamer.proofs.StraightLeaves.{straight-leaves}
-pub use Rattle.renamer.proofs.StraightPosed.{Makes, makes-last, straight-sound, straight_sources}
+pub use Rattle.renamer.proofs.StraightPosed.{Makes, makes-last, straight-sound}
+pub use Rattle.renamer.proofs.SoundGraph.{IsSoundGraph, sound-body, info-is}

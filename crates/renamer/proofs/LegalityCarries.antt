@@ -5,7 +5,9 @@ use Rattle.sl_model.specs.State.{State}
 use Rattle.sl_model.specs.Isa.{Isa}
 use Rattle.sl_model.specs.Body.{Body, flow_of, source_value, applied}
 use Rattle.sl_model.specs.Lawful.{IsLawful}
-use Rattle.sl_model.specs.Legal.{Problem, IsFullLegal, body_of}
+use Rattle.sl_model.specs.Graph.{body_of, AreSources}
+use Rattle.renamer.proofs.SoundGraph.{IsSoundGraph, sound-body}
+use Rattle.sl_model.specs.Legal.{Problem, IsFullLegal}
 use Rattle.sl_model.specs.Program.{TagsHoldOf}
 use Rattle.renamer.specs.Faithful.{Carries, FaithfulOrderCarries}
 use Rattle.renamer.specs.Outcome.{CarriesProblem}
@@ -16,12 +18,13 @@ use Rattle.renamer.proofs.LegalityFinals.{finals-hold}
 use Rattle.sl_model.specs.Machine.{space_of}
 
 -- A full legal schedule carries out its problem, where faithful orders carry out their bodies.
-pub legal-carries : FaithfulOrderCarries → (isa : Isa) (problem : Problem) (schedule : List Choice) (s : State) → IsLawful isa → IsWellPosed isa problem → IsFullLegal isa problem schedule → TagsHoldOf (space_of isa.name) (flow_of isa (body_of problem) s).touches → CarriesProblem isa problem schedule (applied (body_of problem) schedule) s
-legal-carries order isa problem schedule s lawful posed legal tags =
-    let body : Body = body_of problem in
-    let carried : Carries isa body schedule s = order isa body schedule s lawful posed.sound (legal-faithful isa problem [] schedule lawful posed.sound legal.legal) legal.full tags in
+pub legal-carries : FaithfulOrderCarries → (isa : Isa) (problem : Problem) (schedule : List Choice) (s : State) → IsLawful isa → IsWellPosed isa problem → AreSources problem.graph.items problem.graph.order problem.graph.sources → IsFullLegal problem schedule → TagsHoldOf (space_of isa.name) (flow_of isa (body_of problem.graph) s).touches → CarriesProblem isa problem schedule (applied (body_of problem.graph) schedule) s
+legal-carries order isa problem schedule s lawful posed sources legal tags =
+    let sound : IsSoundGraph isa problem.graph = record { of = posed.graph; sources = sources } in
+    let body : Body = body_of problem.graph in
+    let carried : Carries isa body schedule s = order isa body schedule s lawful (sound-body isa problem.graph sound) (legal-faithful isa problem [] schedule lawful sound legal.legal) legal.full tags in
     record {
-      finals = λ k r value final. carried.registers r ∙ ap (source_value s (flow_of isa body s).values) (finals-hold isa problem schedule posed.sound posed.made legal k r value final);
+      finals = λ k r value final. carried.registers r ∙ ap (source_value s (flow_of isa body s).values) (finals-hold isa problem schedule sound posed.made legal k r value final);
       bytes = carried.bytes;
       others = λ r untouched. applied-kept isa body [] schedule s r untouched;
       access_counts = carried.access_counts;

@@ -1,10 +1,11 @@
 -- What the rules say of each operand and of each output of a legal choice.
 use Rattle.std.proofs.Common.{◌≡◌, ℕ, ◌<◌, Bool, true, ◌&&◌, List, length, Option, None, Some, refl, sym, ap, ◌∙◌, true≢false, arith, slice_get, zip}
-use Rattle.std.specs.List.{list_all}
+use Rattle.std.specs.List.{list_all, enumerate_from}
 use Rattle.std.proofs.lemmas.Option.{slice_get_within}
 use Rattle.sl_model.specs.declared.register.Reg.{Reg}
 use Rattle.sl_model.specs.declared.register.RegSet.{RegSet}
 use Rattle.sl_model.specs.declared.instruction.Instr.{Instr}
+use Rattle.sl_model.specs.declared.instruction.FormInfo.{FormInfo}
 use Rattle.sl_model.specs.declared.schedule.Choice.{Choice}
 use Rattle.sl_model.specs.declared.schedule.Source.{Source}
 use Rattle.sl_model.specs.declared.schedule.Source.TheVariants.{Item}
@@ -14,8 +15,8 @@ use Rattle.sl_model.specs.Source.{outputs, item_at}
 use Rattle.sl_model.specs.Isa.{Isa}
 use Rattle.sl_model.specs.Body.{chosen, given, is_still_held, all_differ}
 use Rattle.sl_model.specs.Lawful.{IsValid}
-use Rattle.sl_model.specs.Legal.{Problem, IsLegalNext, sources_in, allowed_in, body_of, is_held_in, is_in_set, operand_classes, output_classes, suits_output, suits_readers, suits_finals, is_flags}
-use Rattle.renamer.specs.Faithful.{IsSound}
+use Rattle.sl_model.specs.Legal.{Problem, IsLegalNext, sources_in, info_in, allowed_in, is_held_in, is_in_set, operand_classes, output_classes, suits_output, suits_readers, suits_finals, is_flags}
+use Rattle.renamer.proofs.SoundGraph.{IsSoundGraph, sound-body, info-is}
 use Rattle.sl_laws.proofs.RegSets.{set_count-bound}
 use Rattle.sl_laws.proofs.Rules.{KeepsRules, keeps_rules}
 use Rattle.sl_laws.proofs.Elements.{element_at, enumerate_from-at, list_all-at, zip-at}
@@ -25,7 +26,7 @@ use Rattle.std.proofs.lemmas.Bool.{and_parts}
 pub record SuitsOutput (isa : Isa) (problem : Problem) (c : Choice) (k : ℕ) (r : Reg) : Type 0 where
   pub allowed : set_has (allowed_in problem c.item) r ≡ true
   pub set : RegSet
-  pub set_at : slice_get (isa.info (item_at problem.items c.item).form).out_sets k ≡ Some set
+  pub set_at : slice_get (isa.info (item_at problem.graph.items c.item).form).out_sets k ≡ Some set
   pub set_has_it : set_has set r ≡ true
   pub finals : suits_finals problem (Item c.item k) r ≡ true
 
@@ -35,25 +36,27 @@ pub record SuitsOperand (isa : Isa) (problem : Problem) (done : List Choice) (c 
   pub register : Reg
   pub given_it : given done value ≡ Some register
   pub set : RegSet
-  pub set_at : slice_get (isa.info (item_at problem.items c.item).form).in_sets k ≡ Some set
+  pub set_at : slice_get (isa.info (item_at problem.graph.items c.item).form).in_sets k ≡ Some set
   pub set_has_it : set_has set register ≡ true
 
 -- each output of a legal choice suits
-pub suits_outputs : (isa : Isa) (problem : Problem) (done : List Choice) (c : Choice) → IsSound isa (body_of problem) → IsLegalNext isa problem done c → (k : ℕ) (r : Reg) → slice_get (chosen c) k ≡ Some r → SuitsOutput isa problem c k r
+pub suits_outputs : (isa : Isa) (problem : Problem) (done : List Choice) (c : Choice) → IsSoundGraph isa problem.graph → IsLegalNext problem done c → (k : ℕ) (r : Reg) → slice_get (chosen c) k ≡ Some r → SuitsOutput isa problem c k r
 suits_outputs isa problem done c sound legal k r at =
-    let i : Instr = item_at problem.items c.item in
+    let i : Instr = item_at problem.graph.items c.item in
     let sets : List RegSet = (isa.info i.form).out_sets in
-    let valid : IsValid isa i = sound.items c.item legal.of.known in
-    let rules : KeepsRules isa problem done c = keeps_rules isa problem done c legal.rules in
+    let valid : IsValid isa i = (sound-body isa problem.graph sound).items c.item legal.of.known in
+    let info : info_in problem c.item ≡ isa.info i.form = info-is isa problem.graph sound c.item legal.of.known in
+    let rules : KeepsRules problem done c = keeps_rules problem done c legal.rules in
     let within : k < length (chosen c) = slice_get_within (chosen c) k r at in
     let set = element_at sets k (omega (arith, within, legal.of.outputs_given, valid.output_count, set_count-bound sets)) in
     let original = element_at (outputs i) k (omega (arith, within, legal.of.outputs_given)) in
-    let beside : slice_get (output_classes isa problem c) k ≡ Some (k, ((r, set.0), original.0)) =
-    enumerate_from-at 0 (zip (zip (chosen c) sets) (outputs i)) k ((r, set.0), original.0) (zip-at (zip (chosen c) sets) (outputs i) k (r, set.0) original.0 (zip-at (chosen c) sets k r set.0 at set.1) original.1)
+    let beside : slice_get (output_classes problem c) k ≡ Some (k, ((r, set.0), original.0)) =
+    ap (λ (told : FormInfo). slice_get (enumerate_from 0 (zip (zip (chosen c) told.out_sets) (outputs i))) k) info
+    ∙ enumerate_from-at 0 (zip (zip (chosen c) sets) (outputs i)) k ((r, set.0), original.0) (zip-at (zip (chosen c) sets) (outputs i) k (r, set.0) original.0 (zip-at (chosen c) sets k r set.0 at set.1) original.1)
     ∙ ap (λ n. Some (n, ((r, set.0), original.0))) (omega arith) in
-    let suits : suits_output isa problem c.item (k, ((r, set.0), original.0)) ≡ true =
-    list_all-at (suits_output isa problem c.item) (output_classes isa problem c) k (k, ((r, set.0), original.0)) (and_parts (list_all (suits_output isa problem c.item) (output_classes isa problem c)) (all_differ (chosen c)) rules.l4).0 beside in
-    let readers : Bool = suits_readers isa problem (Item c.item k) r in
+    let suits : suits_output problem c.item (k, ((r, set.0), original.0)) ≡ true =
+    list_all-at (suits_output problem c.item) (output_classes problem c) k (k, ((r, set.0), original.0)) (and_parts (list_all (suits_output problem c.item) (output_classes problem c)) (all_differ (chosen c)) rules.l4).0 beside in
+    let readers : Bool = suits_readers problem (Item c.item k) r in
     let finals : Bool = suits_finals problem (Item c.item k) r in
     let flags : Bool = same_bool (is_flags original.0) (is_flags r) in
     let after_allowed = (and_parts (set_has (allowed_in problem c.item) r) (set_has set.0 r && (readers && (finals && flags))) suits).1 in
@@ -73,15 +76,17 @@ in_set_has set None e = absurd (true≢false (sym e))
 in_set_has set (Some r) e = (r, refl, e)
 
 -- each operand of a legal choice suits
-pub suits_operands : (isa : Isa) (problem : Problem) (done : List Choice) (c : Choice) → IsSound isa (body_of problem) → IsLegalNext isa problem done c → (k : ℕ) (value : Source) → slice_get (sources_in problem c.item) k ≡ Some value → SuitsOperand isa problem done c k value
+pub suits_operands : (isa : Isa) (problem : Problem) (done : List Choice) (c : Choice) → IsSoundGraph isa problem.graph → IsLegalNext problem done c → (k : ℕ) (value : Source) → slice_get (sources_in problem c.item) k ≡ Some value → SuitsOperand isa problem done c k value
 suits_operands isa problem done c sound legal k value at =
-    let i : Instr = item_at problem.items c.item in
+    let i : Instr = item_at problem.graph.items c.item in
     let sets : List RegSet = (isa.info i.form).in_sets in
-    let valid : IsValid isa i = sound.items c.item legal.of.known in
-    let rules : KeepsRules isa problem done c = keeps_rules isa problem done c legal.rules in
+    let valid : IsValid isa i = (sound-body isa problem.graph sound).items c.item legal.of.known in
+    let info : info_in problem c.item ≡ isa.info i.form = info-is isa problem.graph sound c.item legal.of.known in
+    let rules : KeepsRules problem done c = keeps_rules problem done c legal.rules in
     let within : k < length (sources_in problem c.item) = slice_get_within (sources_in problem c.item) k value at in
-    let set = element_at sets k (omega (arith, within, sound.operands_have c.item legal.of.known, valid.operand_count, set_count-bound sets)) in
-    let suits : is_held_in done (value, set.0) ≡ true = list_all-at (is_held_in done) (operand_classes isa problem c.item) k (value, set.0) rules.l2 (zip-at (sources_in problem c.item) sets k value set.0 at set.1) in
+    let set = element_at sets k (omega (arith, within, (sound-body isa problem.graph sound).operands_have c.item legal.of.known, valid.operand_count, set_count-bound sets)) in
+    let suits : is_held_in done (value, set.0) ≡ true = list_all-at (is_held_in done) (operand_classes problem c.item) k (value, set.0) rules.l2
+    (ap (λ (told : FormInfo). slice_get (zip (sources_in problem c.item) told.in_sets) k) info ∙ zip-at (sources_in problem c.item) sets k value set.0 at set.1) in
     let in_set = in_set_has set.0 (given done value) (and_parts (is_still_held done value) (is_in_set set.0 (given done value)) suits).1 in
     record {
       still_held = (and_parts (is_still_held done value) (is_in_set set.0 (given done value)) suits).0;

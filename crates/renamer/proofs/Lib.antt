@@ -9,11 +9,11 @@ pub mod OrderRun
 pub mod OrderKept
 pub mod OwnFlow
 pub mod LegalityRules
+pub mod SoundGraph
 pub mod LegalityFaithful
 pub mod LegalityFinals
 pub mod LegalityValid
 pub mod LegalityCarries
-pub mod StraightNumbers
 pub mod StraightSets
 pub mod StraightPosed
 pub mod StraightLeaves

@@ -12,7 +12,8 @@ use Rattle.sl_model.specs.Isa.{Isa, op_of}
 use Rattle.sl_model.specs.Exec.{Touch, has_access, is_store, address_of, touch_of, touches_of, values_of, memory_after}
 use Rattle.sl_model.specs.Program.{IsAmong, times_of}
 use Rattle.sl_model.specs.Body.{Body, Flow, flow_item, flow_from, flow_of, output_value, source_value, sources_values, above, stands_in}
-use Rattle.renamer.specs.Faithful.{IsOnce, IsSound, comes_from}
+use Rattle.sl_model.specs.Graph.{IsOnce, comes_from}
+use Rattle.renamer.specs.Faithful.{IsSound}
 use Rattle.renamer.proofs.OrderFold.{folded, counted, everything}
 use Rattle.sl_laws.proofs.State.{stored_at, byte-store}
 use Rattle.sl_laws.proofs.Orders.{above-later, differs, stands-cases, stands-none, stands_behind, stands_first}

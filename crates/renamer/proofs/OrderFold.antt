@@ -2,7 +2,7 @@
 use Rattle.std.proofs.Common.{◌≡◌, ℕ, ◌+◌, Bool, true, false, cond, eqb, ◌⊎◌, List, [], ◌∷◌, ◌++◌, Option, Some, None, unwrap_or, refl, sym, ◌∙◌, ap, ap₂, subst, inl, ⊎_elim, arith}
 use Rattle.std.proofs.lemmas.Bool.{cases_Bool, ne_eqb, cond-true, cond-false}
 use Rattle.sl_model.specs.Body.{above, stands_in}
-use Rattle.renamer.specs.Faithful.{IsOnce}
+use Rattle.sl_model.specs.Graph.{IsOnce}
 use Rattle.renamer.proofs.OrderLists.{below, cut_at_item, below-not_itself}
 use Rattle.sl_laws.proofs.Orders.{above-not_itself, stands_behind, stands_first}
 

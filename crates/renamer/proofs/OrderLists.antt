@@ -2,7 +2,7 @@
 use Rattle.std.proofs.Common.{◌≡◌, ℕ, true, false, cond, eqb, List, [], ◌∷◌, ◌++◌, sym, ap, subst, ⊎_elim}
 use Rattle.std.proofs.lemmas.Bool.{cases_Bool, eqb-true, eqb-false}
 use Rattle.sl_model.specs.Body.{above, stands_in}
-use Rattle.renamer.specs.Faithful.{IsOnce}
+use Rattle.sl_model.specs.Graph.{IsOnce}
 use Rattle.sl_laws.proofs.Orders.{above-later, above-not_itself, differs, stands-cases, stands-none, stands_behind, stands_first}
 
 -- the numbers that stand below an item in an order

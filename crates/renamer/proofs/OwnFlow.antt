@@ -12,12 +12,12 @@ use Rattle.sl_model.specs.declared.schedule.Source.{Source}
 use Rattle.sl_model.specs.declared.schedule.Source.TheVariants.{Entry, Item}
 use Rattle.sl_model.specs.RegSets.{set_has}
 use Rattle.sl_model.specs.State.{State, read, is_zero}
-use Rattle.sl_model.specs.Source.{operands, outputs, item_at, no_instr, list_sources, source_of, place_from, output_or}
+use Rattle.sl_model.specs.Source.{operands, outputs, item_at, no_instr, list_sources, source_of, place_from, output_or, numbers_below}
 use Rattle.sl_model.specs.Isa.{Isa}
 use Rattle.sl_model.specs.Exec.{exec, run, touches, touches_of, operand_values, values_of, memory_after}
 use Rattle.sl_model.specs.Body.{Body, Flow, flow_item, flow_from, flow_of, source_value, sources_values, output_value}
 use Rattle.sl_model.specs.Lawful.{IsLawful, IsValid, suits_set, zero_register, AreValid}
-use Rattle.sl_model.specs.Legal.{numbers_below}
+use Rattle.sl_laws.proofs.Sources.{IsBefore, IsBefore-source_of}
 use Rattle.renamer.specs.Faithful.{own_body, FlowIsRun}
 use Rattle.std.proofs.lemmas.Option.{slice_get_within}
 use Rattle.sl_laws.proofs.RegSets.{is_zero-register, set_count-bound}
@@ -76,23 +76,6 @@ pub flow_from-push : (isa : Isa) (body : Body) (s : State) (flow : Flow) (order 
 unfolding flow_from
 flow_from-push isa body s flow [] p = refl
 flow_from-push isa body s flow (q ∷ order) p = flow_from-push isa body s (flow_item isa body s flow q) order p
-
--- A source is an entry, or an output of an item below a number.
-abbrev pub IsBefore : ℕ → Source → Type 0
-IsBefore n (Entry r) = Unit {0}
-IsBefore n (Item item place) = item < n
-
--- an output of an item, or what was before it, is before the next item
-IsBefore-output_or : (n : ℕ) (o : Option ℕ) (earlier : Source) → IsBefore n earlier → IsBefore (suc n) (output_or n o earlier)
-IsBefore-output_or n None (Entry r) before = tt
-IsBefore-output_or n None (Item item place) before = omega arith
-IsBefore-output_or n (Some place) earlier before = omega arith
-
--- what stands above has numbers below the count of it
-pub IsBefore-source_of : (r : Reg) (above : List Instr) → IsBefore (length above) (source_of r above)
-unfolding source_of
-IsBefore-source_of r [] = tt
-IsBefore-source_of r (i ∷ above) = IsBefore-output_or (length above) (place_from 0 r (outputs i)) (source_of r above) (IsBefore-source_of r above)
 
 -- the value of an earlier source stays, and that of an output is the one at its place
 source_value-push : (s : State) (n : ℕ) (values : List ℕ) (all : List (ℕ × List ℕ)) (o : Option ℕ) (earlier : Source) → IsBefore n earlier → source_value s ((n, values) ∷ all) (output_or n o earlier) ≡ landed o values (source_value s all earlier)

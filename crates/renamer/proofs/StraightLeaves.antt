@@ -12,16 +12,18 @@ use Rattle.sl_model.specs.declared.schedule.Source.TheVariants.{Entry}
 use Rattle.sl_model.specs.Register.{same_reg}
 use Rattle.sl_model.specs.RegSets.{set_of, set_has}
 use Rattle.sl_model.specs.State.{State, byte}
-use Rattle.sl_model.specs.Source.{item_at, no_instr, last_source, list_sources, place_from, output_or}
+use Rattle.sl_model.specs.Source.{item_at, no_instr, last_source, list_sources, place_from, output_or, numbers_below}
 use Rattle.sl_model.specs.Cycles.{CostTable}
 use Rattle.sl_model.specs.Isa.{Isa}
 use Rattle.sl_model.specs.Exec.{run, touches, touches_of, values_of, memory_after}
 use Rattle.sl_model.specs.Body.{Body, Flow, flow_from, flow_of, source_value, sources_values, chosen, held, stands_in, applied}
 use Rattle.sl_model.specs.Lawful.{IsLawful, AreValid}
-use Rattle.sl_model.specs.Legal.{Problem, IsLegalNext, IsLegalFrom, IsFullLegal, allowed_in, body_of, numbers_below, sources_in, straight_problem, written}
+use Rattle.sl_model.specs.Graph.{body_of, list_graph, sources_at}
+use Rattle.sl_model.specs.Legal.{Problem, IsLegalNext, IsLegalFrom, IsFullLegal, allowed_in, straight_problem, written}
 use Rattle.sl_model.specs.Program.{Leaves, TagsHoldOf, is_one_of, times_of}
 use Rattle.sl_model.specs.Program.Program.{Straight}
-use Rattle.renamer.specs.Faithful.{IsSound, Carries, FlowIsRun, own_body}
+use Rattle.renamer.specs.Faithful.{Carries, FlowIsRun, own_body}
+use Rattle.renamer.proofs.SoundGraph.{IsSoundGraph, sound-body}
 use Rattle.renamer.proofs.OrderRun.{order-carries}
 use Rattle.std.proofs.lemmas.Bool.{cases_Bool, or_parts, or_right}
 use Rattle.renamer.proofs.OwnFlow.{own_flow-run}
@@ -29,7 +31,8 @@ use Rattle.renamer.proofs.LegalityRules.{SuitsOutput, suits_outputs}
 use Rattle.renamer.proofs.LegalityFaithful.{legal-faithful}
 use Rattle.renamer.proofs.LegalityFinals.{finals-hold}
 use Rattle.renamer.proofs.StraightSets.{is_one_of-any, set_of-lacks}
-use Rattle.renamer.proofs.StraightPosed.{straight_sources, straight-sound, straight-made}
+use Rattle.renamer.proofs.StraightPosed.{straight-sound, straight-made}
+use Rattle.sl_laws.proofs.Graphs.{list_graph-sources}
 use Rattle.sl_laws.proofs.Numbers.{below-lt}
 use Rattle.sl_laws.proofs.Registers.{place_from-at, place_from-misses, same_reg-true}
 use Rattle.sl_model.specs.Machine.{space_of}
@@ -51,31 +54,31 @@ flow_from-agree isa instr f g whole s flow (p ∷ order) agree =
     ∙ flow_from-agree isa instr f g whole s (flow_with isa s flow p (instr p) (g p)) order (λ q stands. agree q (or_right (eqb p q) (stands_in q order) stands))
 
 -- the straight problem has the flow of the list's own body
-pub straight-flow : (isa : Isa) (items : List Instr) (live free : List Reg) (costs : CostTable) (s : State) → flow_of isa (body_of (straight_problem items live free costs)) s ≡ flow_of isa (own_body items) s
-straight-flow isa items live free costs s =
-    flow_from-agree isa (item_at items) (sources_in (straight_problem items live free costs)) (list_sources items) (numbers_below (length items)) s (record { values = []; memory = s.memory; touches = [] }) (numbers_below (length items))
-    (λ p stands. straight_sources items live free costs p (below-lt (length items) p stands))
+pub straight-flow : (isa : Isa) (items : List Instr) (s : State) → flow_of isa (body_of (list_graph isa items)) s ≡ flow_of isa (own_body items) s
+straight-flow isa items s =
+    flow_from-agree isa (item_at items) (sources_at (list_graph isa items)) (list_sources items) (numbers_below (length items)) s (record { values = []; memory = s.memory; touches = [] }) (numbers_below (length items))
+    (λ p stands. list_graph-sources isa items p)
 
 -- each item may write the registers that the list writes and the free ones
-straight-allowed : (items : List Instr) (live free : List Reg) (costs : CostTable) (p : ℕ) → p < length items → allowed_in (straight_problem items live free costs) p ≡ set_of (written items ++ free)
-straight-allowed items live free costs p within =
+straight-allowed : (isa : Isa) (items : List Instr) (live free : List Reg) (costs : CostTable) (p : ℕ) → p < length items → allowed_in (straight_problem isa items live free costs) p ≡ set_of (written items ++ free)
+straight-allowed isa items live free costs p within =
     get_or_from_slice_get (map (λ i. set_of (written items ++ free)) items) p (set_of (written items ++ free)) (record { bits = 0 })
     (slice_get-map (λ i. set_of (written items ++ free)) items p ∙ ap (option_map (λ i. set_of (written items ++ free))) (slice_get-get_or items p no_instr within))
 
 -- no output of a legal choice goes to a register that is neither written nor free
-straight-misses : (isa : Isa) (items : List Instr) (live free : List Reg) (costs : CostTable) (done : List Choice) (c : Choice) (r : Reg) → IsSound isa (body_of (straight_problem items live free costs)) → IsLegalNext isa (straight_problem items live free costs) done c → list_any (λ q. same_reg q r) (written items ++ free) ≡ false → place_from 0 r (chosen c) ≡ None
+straight-misses : (isa : Isa) (items : List Instr) (live free : List Reg) (costs : CostTable) (done : List Choice) (c : Choice) (r : Reg) → IsSoundGraph isa (list_graph isa items) → IsLegalNext (straight_problem isa items live free costs) done c → list_any (λ q. same_reg q r) (written items ++ free) ≡ false → place_from 0 r (chosen c) ≡ None
 straight-misses isa items live free costs done c r sound legal lacks = place_from-misses 0 r (chosen c) (λ k q at. ⊎_elim (λ t. absurd (never k q at (same_reg-true q r t))) (λ f. f) (cases_Bool (same_reg q r)))
   where
     never : (k : ℕ) (q : Reg) → slice_get (chosen c) k ≡ Some q → q ≡ r → ⊥
     never k q at same =
-        let problem : Problem = straight_problem items live free costs in
+        let problem : Problem = straight_problem isa items live free costs in
         let suits : SuitsOutput isa problem c k q = suits_outputs isa problem done c sound legal k q at in
         let allowed : set_has (set_of (written items ++ free)) q ≡ true =
-        ap (λ set. set_has set q) (sym (straight-allowed items live free costs c.item (below-lt (length items) c.item legal.of.known))) ∙ suits.allowed in
+        ap (λ set. set_has set q) (sym (straight-allowed isa items live free costs c.item (below-lt (length items) c.item legal.of.known))) ∙ suits.allowed in
         true≢false (sym allowed ∙ ap (set_has (set_of (written items ++ free))) same ∙ set_of-lacks r (written items ++ free) lacks)
 
 -- so such a register holds what it held before
-straight-keeps : (isa : Isa) (items : List Instr) (live free : List Reg) (costs : CostTable) (done choices : List Choice) (r : Reg) → IsSound isa (body_of (straight_problem items live free costs)) → IsLegalFrom isa (straight_problem items live free costs) done choices → list_any (λ q. same_reg q r) (written items ++ free) ≡ false → held done r ≡ Entry r → held (reverse_aux choices done) r ≡ Entry r
+straight-keeps : (isa : Isa) (items : List Instr) (live free : List Reg) (costs : CostTable) (done choices : List Choice) (r : Reg) → IsSoundGraph isa (list_graph isa items) → IsLegalFrom (straight_problem isa items live free costs) done choices → list_any (λ q. same_reg q r) (written items ++ free) ≡ false → held done r ≡ Entry r → held (reverse_aux choices done) r ≡ Entry r
 unfolding held
 straight-keeps isa items live free costs done [] r sound legal lacks holds = holds
 straight-keeps isa items live free costs done (c ∷ choices) r sound legal lacks holds =
@@ -101,29 +104,29 @@ is_one_of-at r regs one =
     ] refl one
 
 -- a live-out register stands among the finals with its last writer
-final_at : (items : List Instr) (live free : List Reg) (costs : CostTable) (r : Reg) → is_one_of r (live ++ []) ≡ true → (j : ℕ) × (slice_get (straight_problem items live free costs).finals j ≡ Some (r, last_source items r))
-final_at items live free costs r one =
+final_at : (isa : Isa) (items : List Instr) (live free : List Reg) (costs : CostTable) (r : Reg) → is_one_of r (live ++ []) ≡ true → (j : ℕ) × (slice_get (straight_problem isa items live free costs).finals j ≡ Some (r, last_source items r))
+final_at isa items live free costs r one =
     let found = is_one_of-at r live (sym (ap (is_one_of r) (append-nil live)) ∙ one) in
     let final : Reg → Reg × Source = λ q. (q, last_source items q) in
     (found.0, slice_get-map final live found.0 ∙ ap (option_map final) found.1)
 
 -- A full legal schedule of a straight list leaves what the list leaves.
-pub straight-leaves : (isa : Isa) (items : List Instr) (live free : List Reg) (costs : CostTable) (schedule : List Choice) (s : State) (decrement : Bool → Reg → Instr) → IsLawful isa → AreValid isa items → IsFullLegal isa (straight_problem items live free costs) schedule → TagsHoldOf (space_of isa.name) (touches isa items s) → Leaves isa decrement live free (Straight items) (Straight (applied (body_of (straight_problem items live free costs)) schedule)) s
+pub straight-leaves : (isa : Isa) (items : List Instr) (live free : List Reg) (costs : CostTable) (schedule : List Choice) (s : State) (decrement : Bool → Reg → Instr) → IsLawful isa → AreValid isa items → IsFullLegal (straight_problem isa items live free costs) schedule → TagsHoldOf (space_of isa.name) (touches isa items s) → Leaves isa decrement live free (Straight items) (Straight (applied (body_of (list_graph isa items)) schedule)) s
 unfolding held
 straight-leaves isa items live free costs schedule s decrement lawful valid legal tags =
-    let problem : Problem = straight_problem items live free costs in
-    let body : Body = body_of problem in
-    let sound : IsSound isa body = straight-sound isa items live free costs valid in
+    let problem : Problem = straight_problem isa items live free costs in
+    let body : Body = body_of problem.graph in
+    let sound : IsSoundGraph isa problem.graph = straight-sound isa items valid in
     let own : FlowIsRun isa items s = own_flow-run isa items s lawful valid in
-    let one : flow_of isa body s ≡ flow_of isa (own_body items) s = straight-flow isa items live free costs s in
+    let one : flow_of isa body s ≡ flow_of isa (own_body items) s = straight-flow isa items s in
     let accesses : touches isa items s ≡ (flow_of isa body s).touches = own.accesses ∙ ap (λ (flow : Flow). flow.touches) (sym one) in
     let memory : (flow_of isa body s).memory ≡ (run isa items s).memory = ap (λ (flow : Flow). flow.memory) one ∙ sym own.memory in
-    let carried : Carries isa body schedule s = order-carries isa body s lawful sound (subst (TagsHoldOf (space_of isa.name)) accesses tags) schedule (legal-faithful isa problem [] schedule lawful sound legal.legal) legal.full in
+    let carried : Carries isa body schedule s = order-carries isa body s lawful (sound-body isa problem.graph sound) (subst (TagsHoldOf (space_of isa.name)) accesses tags) schedule (legal-faithful isa problem [] schedule lawful sound legal.legal) legal.full in
     record {
       registers = λ r live_out.
-          let final = final_at items live free costs r live_out in
+          let final = final_at isa items live free costs r live_out in
           carried.registers r
-          ∙ ap (source_value s (flow_of isa body s).values) (finals-hold isa problem schedule sound (straight-made items live free costs) legal final.0 r (last_source items r) final.1)
+          ∙ ap (source_value s (flow_of isa body s).values) (finals-hold isa problem schedule sound (straight-made isa items live free costs) legal final.0 r (last_source items r) final.1)
           ∙ ap (λ (flow : Flow). source_value s flow.values (last_source items r)) one
           ∙ sym (own.registers r);
       bytes = λ address. carried.bytes address ∙ ap (λ m. byte m address) memory;

@@ -1,30 +1,18 @@
 -- What it means that a list of choices computes what its body computes.
-use Rattle.std.specs.Prelude.{ℕ, ◌≡◌, Bool, true, false, [], ◌∷◌, List, length, reverse}
+use Rattle.std.specs.Prelude.{ℕ, ◌≡◌, true, [], List, length, reverse}
 use Rattle.std.specs.List.{list_all}
 use Rattle.sl_model.specs.declared.register.Reg.{Reg}
 use Rattle.sl_model.specs.declared.instruction.Instr.{Instr}
 use Rattle.sl_model.specs.declared.schedule.Choice.{Choice}
-use Rattle.sl_model.specs.declared.schedule.Source.{Source}
-use Rattle.sl_model.specs.declared.schedule.Source.TheVariants.{Entry, Item}
-use Rattle.sl_model.specs.Source.{operands, item_at, last_source, list_sources}
+use Rattle.sl_model.specs.Source.{operands, item_at, last_source, list_sources, numbers_below}
 use Rattle.sl_model.specs.State.{State, read, byte}
+use Rattle.sl_model.specs.Graph.{IsOnce, comes_from}
 use Rattle.sl_model.specs.Isa.{Isa}
 use Rattle.sl_model.specs.Exec.{Touch, run, touches}
 use Rattle.sl_model.specs.Body.{Body, flow_of, source_value, held, applied, above, stands_in, IsFaithfulFrom, is_full}
 use Rattle.sl_model.specs.Lawful.{IsLawful, IsValid}
-use Rattle.sl_model.specs.Legal.{numbers_below}
 use Rattle.sl_model.specs.Program.{times_of, TagsHoldOf}
 use Rattle.sl_model.specs.Machine.{space_of}
-
--- Is a source what a register held before the first item, or an output of one of these items?
-abbrev pub comes_from : List ℕ → Source → Bool
-comes_from order (Entry r) = true
-comes_from order (Item item place) = stands_in item order
-
--- No number stands twice.
-abbrev pub IsOnce : List ℕ → Type 0
-IsOnce [] = Unit {0}
-IsOnce (p ∷ order) = (stands_in p order ≡ false) × IsOnce order
 
 -- What a body needs to have a meaning: its items are instructions of the set, each has a source for
 -- each operand, each source is an entry or stands above, and no item stands twice.

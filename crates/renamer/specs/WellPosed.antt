@@ -8,25 +8,33 @@ use Rattle.sl_model.specs.Register.{same_reg}
 use Rattle.sl_model.specs.Source.{outputs, item_at}
 use Rattle.sl_model.specs.Isa.{Isa}
 use Rattle.sl_model.specs.Body.{same_source, stands_in, all_differ}
-use Rattle.sl_model.specs.Legal.{Problem, body_of}
-use Rattle.renamer.specs.Faithful.{IsSound}
+use Rattle.sl_model.specs.Graph.{Graph, graph_of}
+use Rattle.sl_model.specs.Lawful.{AreValid}
+use Rattle.sl_model.specs.Legal.{Problem}
 
 -- Is a value that must stand in a register at the end an output of an item, or
 -- what that register held before?
 abbrev pub is_made : Problem → Reg × Source → Bool
 is_made problem (r, Entry q) = same_reg q r
 is_made problem (r, Item item place) =
-    stands_in item problem.order && nat_lt place (length (outputs (item_at problem.items item)))
+    stands_in item problem.graph.order
+    && nat_lt place (length (outputs (item_at problem.graph.items item)))
 
 -- Do all sources of a list differ?
 unfoldable pub sources_differ : List Source → Bool
 sources_differ [] = true
 sources_differ (value ∷ values) = not (list_any (same_source value) values) && sources_differ values
 
--- The items of a problem have a meaning; its finals are in different registers and are different
--- values, and each is made in the problem.
+-- A graph is that of its items, in its order with its sources, and these are instructions of the
+-- set.
+pub record IsGraphOf (isa : Isa) (graph : Graph) : Type 0 where
+  pub valid : AreValid isa graph.items
+  pub is : graph ≡ graph_of isa graph.items graph.order graph.sources
+
+-- The graph of a problem is that of its items; its finals are in different registers and are
+-- different values, and each is made in the problem.
 pub record IsWellPosed (isa : Isa) (problem : Problem) : Type 0 where
-  pub sound : IsSound isa (body_of problem)
+  pub graph : IsGraphOf isa problem.graph
   pub registers_differ : all_differ (map (λ f. f.0) problem.finals) ≡ true
   pub values_differ : sources_differ (map (λ f. f.1) problem.finals) ≡ true
   pub made : list_all (is_made problem) problem.finals ≡ true

@@ -5,11 +5,11 @@ ghost use Rattle.sl_model.specs.State.{State};
 ghost use Rattle.sl_model.specs.Isa.{Isa};
 ghost use Rattle.sl_model.specs.Body.{given, applied_item, applied, flow_of};
 ghost use Rattle.sl_model.specs.Lawful.{IsLawful, AreValid};
-ghost use Rattle.sl_model.specs.Legal.{IsFullLegal, body_of};
+ghost use Rattle.sl_model.specs.Graph.{body_of};
+ghost use Rattle.sl_model.specs.Legal.{IsFullLegal};
 ghost use Rattle.sl_model.specs.Program.{TagsHoldOf};
-ghost use Rattle.renamer.specs.Faithful.{IsSound};
 ghost use Rattle.renamer.specs.Outcome.{CarriesProblem};
-ghost use Rattle.renamer.specs.WellPosed.{IsWellPosed};
+ghost use Rattle.renamer.specs.WellPosed.{IsGraphOf, IsWellPosed};
 ghost use Rattle.sl_model.specs.Machine.{space_of};
 
 use crate::order::faithful_order_carries;
@@ -30,20 +30,21 @@ pub fn apply(
     items: &[Instr],
     schedule: &[Choice],
 ) -> Result<Vec<Instr>, NoMemory>
-    requires items { items.now ≡ problem.now.items }
+    requires items { items.now ≡ problem.now.graph.items }
     requires known { IsTrue
-        (list_all (λ c. nat_lt c.item (length problem.now.items)) schedule.now) }
+        (list_all (λ c. nat_lt c.item (length problem.now.graph.items)) schedule.now) }
     ensures applied { IfOk result
-        (λ list. list.items ≡ applied (body_of problem.now) schedule.now) }
+        (λ list. list.items ≡ applied (body_of problem.now.graph) schedule.now) }
     ensures carries { (isa : Isa) (s : State) → IsLawful isa → IsWellPosed isa problem.now
-        → IsFullLegal isa problem.now schedule.now
-        → TagsHoldOf (space_of isa.name) (flow_of isa (body_of problem.now) s).touches
+        → IsFullLegal problem.now schedule.now
+        → TagsHoldOf (space_of isa.name) (flow_of isa (body_of problem.now.graph) s).touches
         → IfOk result (λ list. CarriesProblem isa problem.now schedule.now list.items s) }
-    ensures valid { (isa : Isa) → IsSound isa (body_of problem.now)
-        → IsFullLegal isa problem.now schedule.now
+    ensures valid { (isa : Isa) → IsGraphOf isa problem.now.graph
+        → IsFullLegal problem.now schedule.now
         → IfOk result (λ list. AreValid isa list.items) }
 {
     faithful_order_carries();
+    problem.graph().is_sound();
     let mut list = Vec::with_capacity(alloc, schedule.len())?;
     for (place, choice) in schedule.iter().enumerate() {
         list.push_reserved(applied_item(problem, items, &schedule[..place], choice));
@@ -53,9 +54,9 @@ pub fn apply(
 
 // The item of a choice as it stands after the choices made before.
 fn applied_item(problem: &Problem, items: &[Instr], done: &[Choice], choice: &Choice) -> Instr
-    requires items { items.now ≡ problem.now.items }
+    requires items { items.now ≡ problem.now.graph.items }
     requires known { choice.now.item < length items.now }
-    ensures { result ≡ applied_item (body_of problem.now) (reverse done.now) choice.now }
+    ensures { result ≡ applied_item (body_of problem.now.graph) (reverse done.now) choice.now }
 {
     let sources = problem.sources_of(choice.item);
     Instr {

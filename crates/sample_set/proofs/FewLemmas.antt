@@ -1,6 +1,6 @@
 -- What the code of the small instruction set gives: accesses, stored bytes and examples.
 use Rattle.std.proofs.Common.{◌≡◌, ℕ, ◌+◌, ◌%◌, ◌^◌, ◌<◌, true, false, List, [], length, slice_index, Option, None, Some, refl, sym, ap, arith, add-zero}
-use Rattle.std.proofs.lemmas.Bool.{and_from, lt-ltb, le-leb}
+use Rattle.std.proofs.lemmas.Bool.{and_from, eq-eqb, lt-ltb, le-leb}
 use Rattle.std.specs.Prelude.{if◌then◌else◌}
 use Rattle.std.proofs.Math.Nat.{mod-add-mod}
 use Rattle.std.specs.List.{list_all, filter_map, zip}
@@ -15,7 +15,11 @@ use Rattle.sl_model.specs.Exec.{has_access, is_store, base_value}
 use Rattle.sl_model.specs.Lawful.{IsValid, suits_set, is_tied_to}
 use Rattle.sl_isa.specs.Arch.{access_of, stored_by}
 use Rattle.sample_set.specs.declared.forms.Form.{Form}
-use Rattle.sample_set.specs.FewForms.{few_isa, form_of, info_of, offset_by, stored_by_form, number_in, access_by, example, example_ins, example_outs}
+use Rattle.sample_set.specs.FewLines.{placed, sum_of, subs_of, load_of, store_of}
+use Rattle.sl_laws.proofs.Registers.{same_reg-refl}
+use Rattle.sl_model.specs.declared.register.Bank.TheVariants.{General}
+use Rattle.std.proofs.lemmas.Nat.Bits.{bit_at_ones}
+use Rattle.sample_set.specs.FewForms.{few_isa, form_of, info_of, offset_by, stored_by_form, number_in, access_by, example, example_ins, example_outs, x_registers}
 use Rattle.sample_set.specs.FewLaws.{each}
 
 base_wrapped : (a : ℕ) → a % 2 ^ 64 ≡ (a + 0) % 2 ^ 64
@@ -42,7 +46,7 @@ unfolding few_isa stored_by
 stored_is i ins = stored_of_form ins (form_of i.form)
 
 -- Registers are those that a form takes.
-record Suits (form : Form) (ins outs : List (Option Reg)) : Type 0 where
+pub record Suits (form : Form) (ins outs : List (Option Reg)) : Type 0 where
   ins_shape : ins ≡ padded 4 (filter_map (λ r. r) ins)
   outs_shape : outs ≡ padded 3 (filter_map (λ r. r) outs)
   operand_count : length (filter_map (λ r. r) ins) ≡ set_count (info_of form).in_sets
@@ -64,11 +68,10 @@ example_suits = each (λ form. Suits form (example_ins form) (example_outs form)
     (record { ins_shape = refl; outs_shape = refl; operand_count = refl; output_count = refl; operand_classes = refl; output_classes = refl; distinct = refl; tied = refl })
     (record { ins_shape = refl; outs_shape = refl; operand_count = refl; output_count = refl; operand_classes = refl; output_classes = refl; distinct = refl; tied = refl })
 
--- each example is an instruction of the set
-pub example_valid : (form number : ℕ) → form < 8 → number < 64 → IsValid few_isa (example form number)
+-- an instruction in registers that its form takes is one of the set
+placed_valid : (form number : ℕ) (ins outs : List (Option Reg)) (tag : Option ℕ) → form < 8 → number < 64 → Suits (form_of form) ins outs → IsValid few_isa (placed form number ins outs tag)
 unfolding few_isa
-example_valid form number known small =
-    let suits = example_suits (form_of form) in
+placed_valid form number ins outs tag known small suits =
     record {
       op = and_from _ _ (lt-ltb form 8 known) (and_from _ _ (le-leb 0 number (omega arith)) (lt-ltb number 64 small));
       ins_shape = suits.ins_shape;
@@ -80,3 +83,65 @@ example_valid form number known small =
       distinct = suits.distinct;
       tied = suits.tied;
     }
+
+-- each example is an instruction of the set
+pub example_valid : (form number : ℕ) → form < 8 → number < 64 → IsValid few_isa (example form number)
+example_valid form number known small = placed_valid form number (example_ins (form_of form)) (example_outs (form_of form)) None known small (example_suits (form_of form))
+
+-- an x register is of the class of x registers
+has_x : (n : ℕ) → n < 31 → set_has x_registers (record { bank = General; symbolic = false; number = n }) ≡ true
+unfolding set_has
+has_x n lt = and_from _ _ (eq-eqb _ _ (bit_at_ones 31 n lt)) (lt-ltb n 32 (omega arith))
+
+-- instructions in x registers are of the set
+pub sum_valid : (out left right : ℕ) → out < 31 → left < 31 → right < 31 → IsValid few_isa (sum_of out left right)
+unfolding set_count all_differ place_from
+sum_valid out left right o l r = placed_valid 0 0 _ _ None (omega arith) (omega arith) (record {
+  ins_shape = refl;
+  outs_shape = refl;
+  operand_count = refl;
+  output_count = refl;
+  operand_classes = and_from _ _ (has_x left l) (and_from _ _ (has_x right r) refl);
+  output_classes = and_from _ _ (has_x out o) refl;
+  distinct = refl;
+  tied = refl;
+})
+
+pub subs_valid : (out from number : ℕ) → out < 31 → from < 31 → number < 64 → IsValid few_isa (subs_of out from number)
+unfolding set_has set_count all_differ place_from same_reg
+subs_valid out from number o f small = placed_valid 4 number _ _ None (omega arith) small (record {
+  ins_shape = refl;
+  outs_shape = refl;
+  operand_count = refl;
+  output_count = refl;
+  operand_classes = and_from _ _ (has_x from f) refl;
+  output_classes = and_from _ _ (has_x out o) refl;
+  distinct = refl;
+  tied = refl;
+})
+
+pub load_valid : (out base offset : ℕ) (tag : Option ℕ) → out < 31 → base < 31 → offset < 64 → IsValid few_isa (load_of out base offset tag)
+unfolding set_count all_differ place_from
+load_valid out base offset tag o b small = placed_valid 6 offset _ _ tag (omega arith) small (record {
+  ins_shape = refl;
+  outs_shape = refl;
+  operand_count = refl;
+  output_count = refl;
+  operand_classes = and_from _ _ (has_x base b) refl;
+  output_classes = and_from _ _ (has_x out o) refl;
+  distinct = refl;
+  tied = refl;
+})
+
+pub store_valid : (value base step : ℕ) (tag : Option ℕ) → value < 31 → base < 31 → step < 64 → IsValid few_isa (store_of value base step tag)
+unfolding set_count all_differ place_from
+store_valid value base step tag v b small = placed_valid 7 step _ _ tag (omega arith) small (record {
+  ins_shape = refl;
+  outs_shape = refl;
+  operand_count = refl;
+  output_count = refl;
+  operand_classes = and_from _ _ (has_x value v) (and_from _ _ (has_x base b) refl);
+  output_classes = and_from _ _ (has_x base b) refl;
+  distinct = refl;
+  tied = and_from _ _ (same_reg-refl (record { bank = General; symbolic = false; number = base })) refl;
+})

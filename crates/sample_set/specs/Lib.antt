@@ -1,3 +1,4 @@
 pub mod FewForms
+pub mod FewLines
 pub mod FewLaws
 pub mod Laws

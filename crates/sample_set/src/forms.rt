@@ -237,7 +237,7 @@ fn step_number(op: CounterOp) -> i64
 }
 
 // The second output of a counter's step.
-fn step_flags(op: CounterOp) -> Option<Reg>
+pub(crate) fn step_flags(op: CounterOp) -> Option<Reg>
     ensures { result ≡ step_flags op }
 {
     if op != CounterOp::Subs {
@@ -327,7 +327,7 @@ pub fn example(form: u16, number: u8) -> Instr
     example_of(form, number)
 }
 
-fn example_of(form: u16, number: u8) -> Instr
+pub(crate) fn example_of(form: u16, number: u8) -> Instr
     ensures { result ≡ example form number }
 {
     Instr {
@@ -343,7 +343,7 @@ fn example_of(form: u16, number: u8) -> Instr
     }
 }
 
-fn x_register(number: u16) -> Option<Reg>
+pub(crate) fn x_register(number: u16) -> Option<Reg>
     ensures { result ≡ x_register number }
 {
     Some(Reg {

@@ -5,6 +5,7 @@
 
 pub mod failing;
 pub mod forms;
+pub mod lines;
 pub mod rows;
 
 pub use failing::Failing;

@@ -4,8 +4,10 @@ ghost use Rattle.form_isa.specs.LawfulTable.{is_lawful_row, is_lawful_table};
 ghost use Rattle.form_table.specs.Tables.{is_table};
 
 use form_table::rows::{Alias, Letter, Name, Operand, Range, Role, Row, Shape, Sum};
-use sl_isa::RegSet;
-use sl_isa::meaning::{Arrangement, LaneOp, Meaning, Scalar, Second, Shift, Size, Vector};
+use sl_isa::meaning::{
+    Addressing, Arrangement, LaneOp, Meaning, Scalar, Second, Shift, Size, Transfer, Vector, Width,
+};
+use sl_isa::{Bank, RegSet};
 
 /// x0 to x30.
 pub const ANY_X: RegSet = RegSet {
@@ -367,10 +369,91 @@ const ADD_LEFT: Row = Row {
     ..ADD
 };
 
-const LAWFUL: [Row; 4] = [ADD, ADCS, ADD_LANES, ADD_LEFT];
+const PAIR_STORED: Transfer = Transfer {
+    store: true,
+    pair: true,
+    bank: Bank::General,
+    width: Width::Double,
+    addressing: Addressing::After,
+};
+
+/// `stp x0, x1, [x2], #16`
+pub const STORE_PAIR: Row = Row {
+    mnemonic: *b"stp\0\0\0\0\0",
+    first: FROM_OR_ZERO,
+    second: FROM_OR_ZERO,
+    third: MOVED,
+    fourth: ANY_OFFSET,
+    meaning: Meaning::Memory(PAIR_STORED),
+    ..PLAIN
+};
+
+const PAIR_LOADED: Transfer = Transfer {
+    store: false,
+    pair: true,
+    bank: Bank::General,
+    width: Width::Double,
+    addressing: Addressing::Before,
+};
+
+const MOVED_BEFORE: Operand = Operand {
+    shape: Shape::Before(Letter::X),
+    range: Range {
+        least: -512,
+        most: 504,
+        step: 8,
+    },
+    ..MOVED
+};
+
+/// `ldp x0, x1, [x2, #16]!`
+pub const LOAD_PAIR: Row = Row {
+    mnemonic: *b"ldp\0\0\0\0\0",
+    first: TO,
+    second: TO,
+    third: MOVED_BEFORE,
+    meaning: Meaning::Memory(PAIR_LOADED),
+    ..PLAIN
+};
+
+const WORD_LOADED: Transfer = Transfer {
+    store: false,
+    pair: false,
+    bank: Bank::Vector,
+    width: Width::Word,
+    addressing: Addressing::Kept,
+};
+
+const HELD: Operand = Operand {
+    shape: Shape::Offset(Letter::X),
+    role: Role::Base,
+    class: ANY_X,
+    range: Range {
+        least: 0,
+        most: 1 << 20,
+        step: 4,
+    },
+};
+
+/// `ldr s0, [x1, #4]`
+pub const LOAD_WORD: Row = Row {
+    mnemonic: *b"ldr\0\0\0\0\0",
+    first: Operand {
+        shape: Shape::Register(Letter::S),
+        ..TO_LANES
+    },
+    second: HELD,
+    third: NOTHING,
+    meaning: Meaning::Memory(WORD_LOADED),
+    ..PLAIN
+};
+
+const LAWFUL: [Row; 7] = [
+    ADD, ADCS, ADD_LANES, ADD_LEFT, STORE_PAIR, LOAD_PAIR, LOAD_WORD,
+];
 
 /// These rows are lawful.
-#[tactic(auto, unfolding(form_isa::specs::LawfulTable::is_lawful_table, form_isa::specs::LawfulTable::are_only_of, form_isa::specs::LawfulTable::is_last_number, form_isa::specs::Info::classes, form_isa::specs::Info::input_classes, form_isa::specs::Info::output_classes, form_isa::specs::TableIsa::ranges))]
+#[tactic(auto, unfolding(form_isa::specs::LawfulTable::is_lawful_table, form_isa::specs::LawfulTable::are_only_of, form_isa::specs::LawfulTable::is_last_number, form_isa::specs::Info::classes, form_isa::specs::Info::places_of, form_isa::specs::Info::padded_classes, form_isa::specs::Info::input_classes, form_isa::specs::Info::output_classes, form_isa::specs::TableIsa::ranges, sl_model::specs::RegSets::set_count))]
 pub fn rows_are_lawful()
     ensures { is_lawful_table LAWFUL ≡ true }
 {}
@@ -427,4 +510,60 @@ pub fn others_are_not()
     ensures results { is_lawful_row TWO_RESULTS ≡ false }
     ensures inputs { is_lawful_row FIVE_INPUTS ≡ false }
     ensures number { is_lawful_row FIRST_NUMBER ≡ false }
+{}
+
+const BASED_SUM: Row = Row { third: HELD, ..ADD };
+
+const WITHOUT_BASE: Row = Row {
+    second: FROM,
+    ..LOAD_WORD
+};
+
+const BASE_FIRST: Row = Row {
+    first: MOVED,
+    third: FROM_OR_ZERO,
+    ..STORE_PAIR
+};
+
+const ONE_STORED: Row = Row {
+    second: NOTHING,
+    ..STORE_PAIR
+};
+
+const NOT_WRITTEN_BACK: Row = Row {
+    third: HELD,
+    ..STORE_PAIR
+};
+
+const TOO_WIDE: Row = Row {
+    meaning: Meaning::Memory(Transfer {
+        width: Width::Quad,
+        ..PAIR_LOADED
+    }),
+    ..LOAD_PAIR
+};
+
+const TOO_FAR: Row = Row {
+    second: Operand {
+        range: Range {
+            least: -(1 << 20) - 4,
+            most: 0,
+            step: 4,
+        },
+        ..HELD
+    },
+    ..LOAD_WORD
+};
+
+/// Nor are these, of accesses: a sum with a base, an access without one, a base before the data, one register for two, a base that
+/// isn't written back, more bytes than a register has, and an offset past 2^20.
+#[tactic(auto, unfolding(form_isa::specs::LawfulTable::are_only_of, form_isa::specs::Info::classes, form_isa::specs::Info::places_of, form_isa::specs::Info::padded_classes, form_isa::specs::Info::input_classes, form_isa::specs::Info::output_classes, form_isa::specs::TableIsa::ranges, sl_model::specs::RegSets::set_count))]
+pub fn other_accesses_are_not()
+    ensures sum { is_lawful_row BASED_SUM ≡ false }
+    ensures base { is_lawful_row WITHOUT_BASE ≡ false }
+    ensures order { is_lawful_row BASE_FIRST ≡ false }
+    ensures data { is_lawful_row ONE_STORED ≡ false }
+    ensures back { is_lawful_row NOT_WRITTEN_BACK ≡ false }
+    ensures room { is_lawful_row TOO_WIDE ≡ false }
+    ensures near { is_lawful_row TOO_FAR ≡ false }
 {}

@@ -1,157 +1,91 @@
 //! A schedule as a list of instructions, worked out by hand.
-ghost use Rattle.std.specs.Prelude.{◌≡◌, nat_lt};
-ghost use Rattle.std.specs.List.{list_all};
 
-use issue_cost::Costs;
-use legal_space::{Choice, Problem, Source};
+use crate::lines::{Line, general, items_of};
+use crate::problems::{ROW, are_known};
+use issue_cost::{Costs, NoMemory};
+use legal_space::{Choice, Problem};
 use renamer::apply;
-use sl_model::instruction::Instr;
-use sl_model::register::{Bank, Reg};
+use sample_set::{Failing, FewForms};
 use std::alloc::Global;
-use std::process::Abort;
-use std::test::Fail;
 
-const fn reg(number: u16) -> Reg {
-    Reg {
-        bank: Bank::General,
-        symbolic: false,
-        number,
-    }
-}
+/// An item with the register of its output.
+type Chosen = (u16, u16);
 
-/// An instruction that reads two registers and writes one, or two where `back` is one.
-const fn instr(line: u32, out: u16, back: Option<Reg>, ins: (u16, u16)) -> Instr {
-    Instr {
-        form: 7,
-        wide: false,
-        imms: [4, 0, 0],
-        ins: [Some(reg(ins.0)), Some(reg(ins.1)), None, None],
-        outs: [Some(reg(out)), back, None],
-        tag: Some(1),
-        early: true,
-        late: false,
-        line,
-    }
-}
-
-const fn choice(item: u16, out: u16, back: Option<Reg>) -> Choice {
+fn choice((item, out): Chosen) -> Choice {
     Choice {
         item,
         unit: 0,
-        outs: [Some(reg(out)), back, None],
+        outs: [Some(general(out)), None, None],
     }
 }
 
-const fn output(index: u16, place: u8) -> Source {
-    Source::Item { index, place }
+/// Three items, a schedule of them, and the list that it is.
+#[derive(Clone, Copy)]
+struct Case {
+    items: [Line; 3],
+    schedule: [Chosen; 3],
+    want: [Line; 3],
 }
 
-/// Is each choice of one of so many items?
-fn are_known(schedule: &[Choice], count: usize) -> bool
-    ensures { result ≡ list_all (λ c. nat_lt c.item count) schedule.now }
-{
-    schedule
-        .iter()
-        .all(|choice| usize::from(choice.item) < count)
-}
+/// Two sums and the sum of both.
+const SUM: Case = Case {
+    items: [Line::Sum(1, 0, 0), Line::Sum(2, 0, 9), Line::Sum(1, 1, 2)],
+    schedule: [(1, 5), (0, 6), (2, 7)],
+    want: [Line::Sum(5, 0, 9), Line::Sum(6, 0, 0), Line::Sum(7, 6, 5)],
+};
 
-/// Three items with two operands each, in the order of a schedule, are the wanted list.
-fn check(
-    rt: &impl Abort,
-    alloc: Global,
-    name: &str,
-    items: [Instr; 3],
-    sources: [[Source; 2]; 3],
-    schedule: [Choice; 3],
-    want: [Instr; 3],
-) -> Result<(), Fail> {
-    let mut listed = Vec::new(alloc);
-    for pair in &sources {
-        listed.push(Vec::from_slice(alloc, pair)?)?;
+/// An item that moves a base on.
+const WALK: Case = Case {
+    items: [
+        Line::Sum(3, 0, 0),
+        Line::Store(8, 3, 4, Some(1)),
+        Line::Sum(4, 3, 8),
+    ],
+    schedule: [(0, 5), (1, 5), (2, 7)],
+    want: [
+        Line::Sum(5, 0, 0),
+        Line::Store(8, 5, 4, Some(1)),
+        Line::Sum(7, 5, 8),
+    ],
+};
+
+/// Where an item is chosen twice.
+const TWICE: Case = Case {
+    schedule: [(0, 5), (0, 6), (1, 6)],
+    want: [
+        Line::Sum(5, 0, 0),
+        Line::Sum(6, 0, 0),
+        Line::Store(8, 6, 4, Some(1)),
+    ],
+    ..WALK
+};
+
+/// Is the schedule of a case the list that it should be?
+fn is_right(alloc: Global, case: &Case) -> Result<bool, NoMemory> {
+    let items = items_of(alloc, &case.items)?;
+    let costs = Costs::new(alloc, 1, &[ROW; 3], &[])?;
+    let problem = Problem::straight(&FewForms, alloc, &items, &[], &[], &costs)?;
+    let schedule = case.schedule.map(choice);
+    if !are_known(&schedule, 3) {
+        return Ok(false);
     }
-    let problem = Problem::of_parts(
-        Vec::from_slice(alloc, &items)?,
-        Vec::from_slice(alloc, &[0, 1, 2])?,
-        listed,
-        Vec::new(alloc),
-        Vec::new(alloc),
-        Costs::new(alloc, 1, &[], &[])?,
-        false,
-    );
-    assert!(rt; problem.len() == 3 && are_known(&schedule, 3));
     let list = apply(alloc, &problem, &items, &schedule)?;
-    assert_eq!(rt; list.as_slice(), want.as_slice(), "{name}");
-    Ok(())
+    let want = items_of(alloc, &case.want)?;
+    Ok(list.as_slice() == want.as_slice())
 }
 
 #[test]
-fn operands_follow_the_outputs_that_they_read(rt: HostRuntime) -> Result<(), Fail> {
-    let entry = |number| Source::Entry(reg(number));
-    let sum = [
-        instr(1, 1, None, (0, 0)),
-        instr(2, 2, None, (0, 9)),
-        instr(3, 1, None, (1, 2)),
-    ];
-    let sum_sources = [
-        [entry(0), entry(0)],
-        [entry(0), entry(9)],
-        [output(0, 0), output(1, 0)],
-    ];
-    check(
-        &rt,
-        rt.alloc(),
-        "another order",
-        sum,
-        sum_sources,
-        [choice(1, 5, None), choice(0, 6, None), choice(2, 7, None)],
-        [
-            instr(2, 5, None, (0, 9)),
-            instr(1, 6, None, (0, 0)),
-            instr(3, 7, None, (6, 5)),
-        ],
-    )?;
-    let walk = [
-        instr(1, 3, None, (0, 0)),
-        instr(2, 2, Some(reg(3)), (3, 8)),
-        instr(3, 4, None, (2, 3)),
-    ];
-    let walk_sources = [
-        [entry(0), entry(0)],
-        [output(0, 0), entry(8)],
-        [output(1, 0), output(1, 1)],
-    ];
-    check(
-        &rt,
-        rt.alloc(),
+fn operands_follow_the_outputs_that_they_read(rt: HostRuntime) -> Failing {
+    let alloc = rt.alloc();
+    let mut failing = Failing::new(alloc);
+    failing.check("another order", is_right(alloc, &SUM) == Ok(true));
+    failing.check(
         "an output tied to an operand",
-        walk,
-        walk_sources,
-        [
-            choice(0, 5, None),
-            choice(1, 6, Some(reg(5))),
-            choice(2, 7, None),
-        ],
-        [
-            instr(1, 5, None, (0, 0)),
-            instr(2, 6, Some(reg(5)), (5, 8)),
-            instr(3, 7, None, (6, 5)),
-        ],
-    )?;
-    check(
-        &rt,
-        rt.alloc(),
+        is_right(alloc, &WALK) == Ok(true),
+    );
+    failing.check(
         "the last choice of an item",
-        walk,
-        walk_sources,
-        [
-            choice(0, 5, None),
-            choice(0, 6, None),
-            choice(1, 7, Some(reg(6))),
-        ],
-        [
-            instr(1, 5, None, (0, 0)),
-            instr(1, 6, None, (0, 0)),
-            instr(2, 7, Some(reg(6)), (6, 8)),
-        ],
-    )
+        is_right(alloc, &TWICE) == Ok(true),
+    );
+    failing
 }

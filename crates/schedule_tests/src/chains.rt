@@ -2,19 +2,18 @@
 ghost use Rattle.std.specs.Prelude.{◌≡◌, ◌≤◌, ◌&&◌, length, nat_lt, IfOk};
 ghost use Rattle.std.specs.List.{list_all};
 ghost use Rattle.issue_cost.specs.Sound.{is_sound_row};
-ghost use Rattle.legal_space.specs.Timed.{HasKnownSources};
+ghost use Rattle.sl_model.specs.declared.limits.TheConstants.{ITEMS};
 
-use crate::problems::{ROW, general, sum_of};
+use crate::lines::{Line, general, items_of};
+use crate::problems::{ROW, are_known, have_units};
 use issue_cost::{CostRow, Costs, Forward, Issue, NoMemory};
 use legal_space::{Choice, Problem, times_of};
 use renamer::apply;
-use sl_model::instruction::Instr;
+use sample_set::{Failing, FewForms};
 use std::alloc::{AllocError, Global};
-use std::process::Abort;
-use std::test::Fail;
 
 /// The lengths of the chains: past each count at which one might have ended.
-const LENGTHS: [u16; 14] = [0, 1, 8, 9, 31, 32, 33, 48, 49, 64, 65, 192, 257, 4097];
+const LENGTHS: [u16; 11] = [0, 1, 8, 9, 31, 32, 33, 48, 49, 63, 64];
 
 fn is_sound(row: &CostRow) -> bool
     ensures { result ≡ is_sound_row row.now }
@@ -29,24 +28,25 @@ fn are_sound(rows: &[CostRow]) -> bool
 }
 
 /// Costs of so many items that are ready after two cycles, on a core that issues one in a cycle.
-fn costs_of(rt: &impl Abort, alloc: Global, count: usize) -> Result<Costs, Fail>
+fn costs_of(alloc: Global, count: usize) -> Result<Costs, NoMemory>
     ensures { IfOk result (λ costs. length costs.rows ≡ count) }
 {
     let rows = vec![in alloc; ROW; count]?;
-    assert!(rt; are_sound(&rows));
-    Ok(Costs::new(alloc, 1, &rows, &[])?)
+    if !are_sound(&rows) {
+        return Err(NoMemory);
+    }
+    Costs::new(alloc, 1, &rows, &[])
 }
 
 /// A chain of items that each read what the one above wrote.
-fn chain_of(rt: &impl Abort, alloc: Global, count: usize) -> Result<Problem, Fail>
-    requires { count ≤ 65535 }
-    ensures items { IfOk result (λ problem. length problem.items ≡ count) }
-    ensures rows { IfOk result (λ problem. length problem.costs.rows ≡ count) }
-    ensures sources { IfOk result (λ problem. HasKnownSources problem) }
+fn chain_of(alloc: Global, count: usize) -> Result<Problem, NoMemory>
+    requires { count ≤ ITEMS }
+    ensures { IfOk result (λ problem. length problem.graph.items ≡ count) }
 {
-    let costs = costs_of(rt, alloc, count)?;
-    let items = vec![in alloc; sum_of(1, 1, 0); count]?;
-    Ok(Problem::straight(alloc, items, &[general(1)], &[], costs)?)
+    let lines = vec![in alloc; Line::Sum(1, 1, 0); count]?;
+    let items = items_of(alloc, &lines)?;
+    let costs = costs_of(alloc, items.len())?;
+    Problem::straight(&FewForms, alloc, &items, &[general(1)], &[], &costs)
 }
 
 /// The items in their own order, each on unit 0 and in its own register.
@@ -62,60 +62,57 @@ fn own_order(alloc: Global, count: u16) -> Result<Vec<Choice>, AllocError> {
     Ok(schedule)
 }
 
-fn are_known(schedule: &[Choice], count: usize) -> bool
-    ensures { result ≡ list_all (λ c. nat_lt c.item count) schedule.now }
-{
-    schedule
-        .iter()
-        .all(|choice| usize::from(choice.item) < count)
-}
-
-fn have_units(schedule: &[Choice]) -> bool
-    ensures { result ≡ list_all (λ c. nat_lt c.unit 16) schedule.now }
-{
-    schedule.iter().all(|choice| choice.unit < 16)
-}
-
-/// Holds each call of a chain of so many items against what it has to answer.
-fn check(rt: &impl Abort, alloc: Global, count: u16) -> Result<(), Fail> {
+/// Do the times and the list of a chain in its own order say what they should?
+fn is_answered(alloc: Global, count: u16) -> Result<bool, NoMemory> {
     let length = usize::from(count);
-    let problem = chain_of(rt, alloc, length)?;
+    if 64 < length {
+        return Ok(false);
+    }
+    let problem = chain_of(alloc, length)?;
     let schedule = own_order(alloc, count)?;
-    assert!(rt; schedule.len() == length && are_known(&schedule, length) && have_units(&schedule));
+    if schedule.len() != length || !are_known(&schedule, length) || !have_units(&schedule) {
+        return Ok(false);
+    }
     let times = times_of(alloc, &problem, &schedule)?;
-    let last = u32::from(count).saturating_sub(1);
-    assert_eq!(rt; times.cycles.len(), length, "{count} items");
-    assert_eq!(rt;
-        times.cycles.iter().last().copied().unwrap_or(0),
-        last.saturating_mul(2)
-    );
-    assert_eq!(rt; times.stalls, last, "{count} items");
     let list = apply(alloc, &problem, problem.items(), &schedule)?;
-    assert!(rt; list.as_slice() == problem.items(), "{count} items");
-    Ok(())
+    let last = u32::from(count).saturating_sub(1);
+    Ok(
+        times.cycles.len() == length
+            && times.cycles.last().copied().unwrap_or(0) == last.saturating_mul(2)
+            && times.stalls == last
+            && list.as_slice() == problem.items(),
+    )
 }
 
 #[test]
-fn chains_of_any_length_have_their_answers(rt: HostRuntime) -> Result<(), Fail> {
-    for count in LENGTHS {
-        check(&rt, rt.alloc(), count)?;
+fn chains_of_any_length_have_their_answers(rt: HostRuntime) -> Failing {
+    let mut failing = Failing::new(rt.alloc());
+    for count in &LENGTHS {
+        failing.check_number(
+            usize::from(*count),
+            is_answered(rt.alloc(), *count) == Ok(true),
+        );
     }
-    Ok(())
+    failing
+}
+
+/// How many items the longest problem has, how long its order is, and what is allowed for its last item.
+fn longest(alloc: Global) -> Result<(usize, usize, u128), NoMemory> {
+    let problem = chain_of(alloc, 64)?;
+    Ok((
+        problem.len(),
+        problem.order().len(),
+        problem.allowed_for(63).bits,
+    ))
 }
 
 // The most items that a problem has.
 #[test]
-fn the_longest_problem_is_made(rt: HostRuntime) -> Result<(), Fail> {
-    let alone = Instr {
-        ins: [None; 4],
-        ..sum_of(1, 0, 0)
-    };
-    let items = vec![in rt.alloc(); alone; 65535]?;
-    let costs = Costs::new(rt.alloc(), 1, &[], &[])?;
-    let problem = Problem::straight(rt.alloc(), items, &[general(1)], &[], costs)?;
-    assert_eq!(rt; (problem.len(), problem.order().len()), (65535, 65535));
-    assert_eq!(rt; problem.allowed_for(65534).bits, 0b10);
-    Ok(())
+fn the_longest_problem_is_made(rt: HostRuntime) -> Failing {
+    let mut failing = Failing::new(rt.alloc());
+    let found = longest(rt.alloc());
+    failing.check("64 items", found == Ok((64, 64, 0b10)));
+    failing
 }
 
 /// Forwards of any number, of which the first counts.
@@ -126,18 +123,28 @@ const FORWARD: Forward = Forward {
     latency: 1,
 };
 
-#[test]
-fn room_and_costs_are_made_at_any_size(rt: HostRuntime) -> Result<(), Fail> {
-    for items in [0, 1, 32, 33, 64, 65, 257, 4096, 65535, 65536] {
-        let issue = Issue::with_room(rt.alloc(), items)?;
-        assert_eq!(rt; (issue.len(), issue.cycles()), (0, 0), "{items} items");
-        let costs = costs_of(&rt, rt.alloc(), items)?.copy(rt.alloc())?;
-        if 0 < items {
-            assert_eq!(rt; costs.busy(0), 1, "{items} items");
-        }
+/// Is an issue with room for so many items made, and are costs of as many copied?
+fn is_made(alloc: Global, items: usize) -> Result<bool, NoMemory> {
+    if 65536 < items {
+        return Ok(false);
     }
-    let costs = Costs::new(rt.alloc(), 8, &[ROW; 2], &[FORWARD; 65])?.copy(rt.alloc())?;
-    assert_eq!(rt; costs.ready_after(0, 0, 1, 1), 1);
-    assert_eq!(rt; costs.ready_after(0, 0, 1, 0), 2);
-    Ok(())
+    let issue = Issue::with_room(alloc, items)?;
+    let costs = costs_of(alloc, items)?.copy(alloc)?;
+    Ok(issue.len() == 0 && issue.cycles() == 0 && (items == 0 || costs.busy(0) == 1))
+}
+
+/// When a result is ready at two operands, by the first of 65 forwards of which one is for the second operand.
+fn ready_by_many(alloc: Global) -> Result<(u32, u32), NoMemory> {
+    let costs = Costs::new(alloc, 8, &[ROW; 2], &[FORWARD; 65])?.copy(alloc)?;
+    Ok((costs.ready_after(0, 0, 1, 1), costs.ready_after(0, 0, 1, 0)))
+}
+
+#[test]
+fn room_and_costs_are_made_at_any_size(rt: HostRuntime) -> Failing {
+    let mut failing = Failing::new(rt.alloc());
+    for items in &[0, 1, 32, 33, 64, 65, 257, 4096, 65535, 65536] {
+        failing.check_number(*items, is_made(rt.alloc(), *items) == Ok(true));
+    }
+    failing.check("many forwards", ready_by_many(rt.alloc()) == Ok((1, 2)));
+    failing
 }

@@ -1,10 +1,9 @@
 //! The cycles at which items are issued, on tables of two rows.
-ghost use Rattle.std.specs.Prelude.{◌≡◌, ℕ, ◌+◌, ◌≤◌, ◌<◌, length};
+ghost use Rattle.std.specs.Prelude.{◌≡◌, ℕ, ◌+◌, ◌≤◌, ◌<◌, length, IfSome};
 
-use issue_cost::{CostRow, Costs, Forward, Issue};
+use issue_cost::{CostRow, Costs, Forward, Issue, NoMemory};
+use sample_set::Failing;
 use std::alloc::Global;
-use std::process::Abort;
-use std::test::Fail;
 
 /// An item that is ready after 2 cycles.
 const SHORT: CostRow = CostRow {
@@ -43,108 +42,134 @@ const FORWARDS: [Forward; 2] = [
     },
 ];
 
-#[test]
-fn a_copy_answers_as_its_costs(rt: HostRuntime) -> Result<(), Fail> {
-    let alloc = rt.alloc();
-    let costs = Costs::new(alloc, 2, &ROWS, &FORWARDS)?.copy(alloc)?;
-    assert_eq!(rt; costs.width(), 2);
-    assert_eq!(rt; (costs.units(0), costs.busy(0)), (3, 1));
-    assert_eq!(rt; (costs.units(1), costs.busy(1)), (1, 3));
-    let cases = [
-        ("the latency", costs.ready_after(0, 0, 1, 0), 2),
-        (
-            "no forward at this operand",
-            costs.ready_after(1, 0, 0, 0),
-            5,
-        ),
-        ("a later forward", costs.ready_after(1, 0, 0, 1), 3),
-        ("a forward", costs.ready_after(1, 0, 0, 2), 1),
-        ("no forward to this class", costs.ready_after(1, 0, 1, 2), 5),
-        ("a written-back base", costs.ready_after(1, 1, 0, 2), 4),
-        ("no base is written back", costs.ready_after(0, 1, 0, 2), 2),
-    ];
-    for (name, cycles, want) in cases {
-        assert_eq!(rt; cycles, want, "{name}");
+/// Questions to costs: a name, the row and the place of a result, the row and the operand that it goes to, and after how many cycles it is ready.
+const READY: [(&str, u16, u8, u16, u8, u32); 7] = [
+    ("the latency", 0, 0, 1, 0, 2),
+    ("no forward at this operand", 1, 0, 0, 0, 5),
+    ("a later forward", 1, 0, 0, 1, 3),
+    ("a forward", 1, 0, 0, 2, 1),
+    ("no forward to this class", 1, 0, 1, 2, 5),
+    ("a written-back base", 1, 1, 0, 2, 4),
+    ("no base is written back", 0, 1, 0, 2, 2),
+];
+
+/// Notes the questions that costs of two rows answer otherwise.
+fn check_ready(costs: &Costs, failing: &mut Failing)
+    requires { length costs.now.rows ≡ 2 }
+{
+    for (name, from, place, to, operand, wanted) in &READY {
+        if *from < 2 && *to < 2 {
+            let cycles = costs.ready_after(*from, *place, *to, *operand);
+            failing.check(name, cycles == *wanted);
+        }
     }
-    Ok(())
 }
 
-/// Pushes an item, given by its number, its unit and when it is ready.
-fn pushed(rt: &impl Abort, issue: &mut Issue, costs: &Costs, item: (u16, u8, u32)) -> u32
+#[test]
+fn a_copy_answers_as_its_costs(rt: HostRuntime) -> Result<Failing, NoMemory> {
+    let alloc = rt.alloc();
+    let mut failing = Failing::new(alloc);
+    let costs = Costs::new(alloc, 2, &ROWS, &FORWARDS)?.copy(alloc)?;
+    failing.check("the width", costs.width() == 2);
+    failing.check(
+        "units of the first row",
+        costs.units(0) == 3 && costs.busy(0) == 1,
+    );
+    failing.check(
+        "units of the second row",
+        costs.units(1) == 1 && costs.busy(1) == 3,
+    );
+    check_ready(&costs, &mut failing);
+    Ok(failing)
+}
+
+/// Pushes an item, given by its number, its unit and when it is ready; gives its cycle, where that was foreseen.
+fn pushed(issue: &mut Issue, costs: &Costs, item: (u16, u8, u32)) -> Option<u32>
     requires room { length issue.old.pushes < issue.old.room }
     requires rows { length costs.now.rows ≡ 2 }
-    ensures len { length issue.new.pushes ≡ length issue.old.pushes + 1 }
+    ensures len { IfSome result (λ _. length issue.new.pushes ≡ length issue.old.pushes + 1) }
     ensures room { issue.new.room ≡ issue.old.room }
 {
     let (item, unit, ready) = item;
-    assert!(rt; item < 2 && unit < 16 && ready < 100);
+    if 2 <= item || 16 <= unit || 100 <= ready {
+        return None;
+    }
     let foreseen = issue.cycle_for(costs, unit, ready);
     let cycle = issue.push(costs, item, unit, ready);
-    assert_eq!(rt; cycle, foreseen);
-    cycle
+    if cycle != foreseen {
+        return None;
+    }
+    Some(cycle)
 }
 
-/// The cycles of three items that are pushed one after the other, the last of them twice.
-fn cycles_of(
-    rt: &impl Abort,
-    alloc: Global,
-    width: u8,
-    items: [(u16, u8, u32); 3],
-) -> Result<[u32; 3], Fail>
+/// The cycles of three items that are pushed one after the other, the last of them twice, where all is as foreseen.
+fn cycles_of(alloc: Global, width: u8, items: [(u16, u8, u32); 3]) -> Option<[u32; 3]>
     requires least { 1 ≤ width }
     requires most { width ≤ 8 }
 {
-    let costs = Costs::new(alloc, width, &ROWS, &FORWARDS)?;
-    let mut issue = Issue::with_room(alloc, 3)?;
-    assert_eq!(rt; (issue.len(), issue.cycles()), (0, 0));
-    let first = pushed(rt, &mut issue, &costs, items[0]);
-    let second = pushed(rt, &mut issue, &costs, items[1]);
-    let undone = pushed(rt, &mut issue, &costs, items[2]);
+    let costs = Costs::new(alloc, width, &ROWS, &FORWARDS).ok()?;
+    let mut issue = Issue::with_room(alloc, 3).ok()?;
+    let first = pushed(&mut issue, &costs, items[0])?;
+    let second = pushed(&mut issue, &costs, items[1])?;
+    let undone = pushed(&mut issue, &costs, items[2])?;
     issue.pop();
-    assert_eq!(rt; issue.len(), 2);
-    let third = pushed(rt, &mut issue, &costs, items[2]);
-    assert_eq!(rt; third, undone);
-    assert_eq!(rt; u64::from(issue.cycles()), u64::from(third) + 1);
-    Ok([first, second, third])
+    if issue.len() != 2 {
+        return None;
+    }
+    let third = pushed(&mut issue, &costs, items[2])?;
+    if third != undone || u64::from(issue.cycles()) != u64::from(third) + 1 {
+        return None;
+    }
+    Some([first, second, third])
+}
+
+/// A name, the width, three items with their units and when they are ready, and their cycles.
+type Case = (&'static str, u8, [(u16, u8, u32); 3], [u32; 3]);
+
+const CASES: [Case; 5] = [
+    (
+        "a chain in a narrow core",
+        1,
+        [(0, 0, 0), (0, 0, 2), (0, 1, 0)],
+        [0, 2, 3],
+    ),
+    (
+        "two slots in a cycle",
+        2,
+        [(0, 0, 0), (0, 1, 0), (0, 0, 0)],
+        [0, 0, 1],
+    ),
+    (
+        "a unit that is kept",
+        2,
+        [(1, 0, 0), (0, 0, 0), (0, 1, 0)],
+        [0, 3, 3],
+    ),
+    (
+        "another unit",
+        2,
+        [(1, 0, 0), (0, 1, 0), (1, 0, 0)],
+        [0, 0, 3],
+    ),
+    (
+        "a later operand",
+        3,
+        [(0, 0, 7), (0, 1, 0), (0, 2, 9)],
+        [7, 7, 9],
+    ),
+];
+
+/// Does a case have its cycles?
+fn is_right(alloc: Global, case: &Case) -> bool {
+    let (_, width, items, wanted) = *case;
+    1 <= width && width <= 8 && cycles_of(alloc, width, items) == Some(wanted)
 }
 
 #[test]
-fn items_wait_for_slots_operands_and_units(rt: HostRuntime) -> Result<(), Fail> {
-    let cases = [
-        (
-            "a chain in a narrow core",
-            1,
-            [(0, 0, 0), (0, 0, 2), (0, 1, 0)],
-            [0, 2, 3],
-        ),
-        (
-            "two slots in a cycle",
-            2,
-            [(0, 0, 0), (0, 1, 0), (0, 0, 0)],
-            [0, 0, 1],
-        ),
-        (
-            "a unit that is kept",
-            2,
-            [(1, 0, 0), (0, 0, 0), (0, 1, 0)],
-            [0, 3, 3],
-        ),
-        (
-            "another unit",
-            2,
-            [(1, 0, 0), (0, 1, 0), (1, 0, 0)],
-            [0, 0, 3],
-        ),
-        (
-            "a later operand",
-            3,
-            [(0, 0, 7), (0, 1, 0), (0, 2, 9)],
-            [7, 7, 9],
-        ),
-    ];
-    for (name, width, items, want) in cases {
-        assert!(rt; 1 <= width && width <= 8);
-        assert_eq!(rt; cycles_of(&rt, rt.alloc(), width, items)?, want, "{name}");
+fn items_wait_for_slots_operands_and_units(rt: HostRuntime) -> Failing {
+    let mut failing = Failing::new(rt.alloc());
+    for case in &CASES {
+        failing.check(case.0, is_right(rt.alloc(), case));
     }
-    Ok(())
+    failing
 }

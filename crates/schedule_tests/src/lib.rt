@@ -6,6 +6,10 @@ mod applying;
 #[cfg(test)]
 mod chains;
 #[cfg(test)]
+mod graphs;
+#[cfg(test)]
 mod issue;
+#[cfg(test)]
+mod lines;
 #[cfg(test)]
 mod problems;

@@ -1,59 +1,42 @@
 //! A straight problem of three items, and the cycles of its orders.
-ghost use Rattle.std.specs.Prelude.{◌≡◌, length};
-ghost use Rattle.legal_space.specs.Timed.{HasKnownSources};
+ghost use Rattle.std.specs.Prelude.{◌≡◌, length, nat_lt, IfOk};
+ghost use Rattle.std.specs.List.{list_all};
 
+use crate::lines::{Line, general, items_of};
 use issue_cost::{CostRow, Costs, NoMemory};
 use legal_space::{Choice, Problem, Source, Times, times_of, written};
+use sample_set::{Failing, FewForms};
 use sl_isa::sets::set_of;
-use sl_model::instruction::Instr;
-use sl_model::register::{Bank, Reg};
 use std::alloc::Global;
-use std::process::Abort;
-use std::test::Fail;
 
-/// A general register.
-pub const fn general(number: u16) -> Reg {
-    Reg {
-        bank: Bank::General,
-        symbolic: false,
-        number,
-    }
-}
-
-/// An instruction that reads two registers and writes one.
-pub const fn sum_of(out: u16, left: u16, right: u16) -> Instr {
-    Instr {
-        form: 0,
-        wide: false,
-        imms: [0; 3],
-        ins: [Some(general(left)), Some(general(right)), None, None],
-        outs: [Some(general(out)), None, None],
-        tag: None,
-        early: false,
-        late: false,
-        line: 1,
-    }
-}
+/// A chain of three instructions.
+const CHAIN: [Line; 3] = [Line::Sum(2, 1, 0), Line::Sum(3, 2, 1), Line::Sum(2, 3, 2)];
 
 #[test]
-fn a_chain_reads_what_stands_above(rt: HostRuntime) -> Result<(), Fail> {
+fn a_chain_reads_what_stands_above(rt: HostRuntime) -> Result<Failing, NoMemory> {
     let alloc = rt.alloc();
-    let items = vec![in alloc; sum_of(2, 1, 0), sum_of(3, 2, 1), sum_of(2, 3, 2)]?;
-    assert_eq!(rt; set_of(&written(alloc, &items)?).bits, 0b1100);
-    let costs = Costs::new(alloc, 1, &[], &[])?;
+    let mut failing = Failing::new(alloc);
+    let items = items_of(alloc, &CHAIN)?;
+    let outs = set_of(&written(alloc, &items)?);
+    failing.check("what is written", outs.bits == 0b1100);
+    let costs = Costs::new(alloc, 1, &[ROW; 3], &[])?;
     let live = [general(2), general(9)];
-    let problem = Problem::straight(alloc, items, &live, &[general(5)], costs)?;
-    assert_eq!(rt; (problem.len(), problem.order()), (3, &[0, 1, 2][..]));
+    let problem = Problem::straight(&FewForms, alloc, &items, &live, &[general(5)], &costs)?;
+    failing.check("the items", problem.len() == 3);
+    failing.check("the order", problem.order() == &[0, 1, 2][..]);
     let first = Source::Item { index: 0, place: 0 };
     let second = Source::Item { index: 1, place: 0 };
     let last = Source::Item { index: 2, place: 0 };
     let entry = Source::Entry(general(1));
-    assert_eq!(rt; problem.sources_of(1), &[first, entry][..]);
-    assert_eq!(rt; problem.sources_of(2), &[second, first][..]);
     let finals = [(live[0], last), (live[1], Source::Entry(live[1]))];
-    assert_eq!(rt; problem.finals(), &finals[..]);
-    assert_eq!(rt; problem.allowed_for(1).bits, 0b10_1100);
-    Ok(())
+    failing.check(
+        "an item and an entry",
+        problem.sources_of(1) == &[first, entry][..],
+    );
+    failing.check("two items", problem.sources_of(2) == &[second, first][..]);
+    failing.check("the finals", problem.finals() == &finals[..]);
+    failing.check("what is allowed", problem.allowed_for(1).bits == 0b10_1100);
+    Ok(failing)
 }
 
 /// An item whose result is ready after 2 cycles.
@@ -66,42 +49,71 @@ pub const ROW: CostRow = CostRow {
     back: None,
 };
 
-/// The times of three items in an order.
-fn times_in(
-    rt: &impl Abort,
-    alloc: Global,
-    problem: &Problem,
-    order: [u16; 3],
-) -> Result<Times, NoMemory>
-    requires items { length problem.now.items ≡ 3 }
-    requires rows { length problem.now.costs.rows ≡ 3 }
-    requires sources { HasKnownSources problem.now }
+/// Three items of a problem, of which the second reads the first.
+fn three_items(alloc: Global) -> Result<Problem, NoMemory>
+    ensures { IfOk result (λ problem. length problem.graph.items ≡ 3) }
 {
-    let [first, second, third] = order;
-    assert!(rt; first < 3 && second < 3 && third < 3);
-    let schedule = [first, second, third].map(|item| Choice {
+    let items = items_of(
+        alloc,
+        &[Line::Sum(1, 0, 0), Line::Sum(2, 1, 1), Line::Sum(3, 0, 0)],
+    )?;
+    let costs = Costs::new(alloc, 1, &[ROW; 3], &[])?;
+    Problem::straight(&FewForms, alloc, &items, &[], &[], &costs)
+}
+
+/// Is each choice of one of so many items?
+pub fn are_known(schedule: &[Choice], count: usize) -> bool
+    ensures { result ≡ list_all (λ c. nat_lt c.item count) schedule.now }
+{
+    schedule
+        .iter()
+        .all(|choice| usize::from(choice.item) < count)
+}
+
+/// Is each choice of a unit that there may be?
+pub fn have_units(schedule: &[Choice]) -> bool
+    ensures { result ≡ list_all (λ c. nat_lt c.unit 16) schedule.now }
+{
+    schedule.iter().all(|choice| choice.unit < 16)
+}
+
+/// The times of three items in an order.
+fn times_in(alloc: Global, order: [u16; 3]) -> Result<Times, NoMemory> {
+    let problem = three_items(alloc)?;
+    let schedule = order.map(|item| Choice {
         item,
         unit: 0,
         outs: [None; 3],
     });
-    times_of(alloc, problem, &schedule)
+    if !are_known(&schedule, 3) || !have_units(&schedule) {
+        return Err(NoMemory);
+    }
+    times_of(alloc, &problem, &schedule)
+}
+
+/// A name, an order, the cycles of its items, and how many cycles and stalls it has.
+type Case = (&'static str, [u16; 3], [u32; 3], (u32, u32));
+
+const CASES: [Case; 3] = [
+    ("as they stand", [0, 1, 2], [0, 2, 3], (4, 1)),
+    ("one between", [0, 2, 1], [0, 1, 2], (3, 0)),
+    ("before its source", [1, 0, 2], [2, 3, 4], (5, 2)),
+];
+
+/// Does a case have its times?
+fn is_right(alloc: Global, case: &Case) -> bool {
+    let (_, order, cycles, counts) = *case;
+    let Ok(times) = times_in(alloc, order) else {
+        return false;
+    };
+    times.cycles.as_slice() == &cycles[..] && (times.count, times.stalls) == counts
 }
 
 #[test]
-fn an_item_waits_for_what_was_issued_before(rt: HostRuntime) -> Result<(), Fail> {
-    let alloc = rt.alloc();
-    let items = vec![in alloc; sum_of(1, 0, 0), sum_of(2, 1, 1), sum_of(3, 0, 0)]?;
-    let costs = Costs::new(alloc, 1, &[ROW; 3], &[])?;
-    let problem = Problem::straight(alloc, items, &[], &[], costs)?;
-    let cases = [
-        ("as they stand", [0, 1, 2], [0, 2, 3], (4, 1)),
-        ("one between", [0, 2, 1], [0, 1, 2], (3, 0)),
-        ("before its source", [1, 0, 2], [2, 3, 4], (5, 2)),
-    ];
-    for (name, order, cycles, counts) in cases {
-        let times = times_in(&rt, alloc, &problem, order)?;
-        assert_eq!(rt; times.cycles.as_slice(), &cycles[..], "{name}");
-        assert_eq!(rt; (times.count, times.stalls), counts, "{name}");
+fn an_item_waits_for_what_was_issued_before(rt: HostRuntime) -> Failing {
+    let mut failing = Failing::new(rt.alloc());
+    for case in &CASES {
+        failing.check(case.0, is_right(rt.alloc(), case));
     }
-    Ok(())
+    failing
 }

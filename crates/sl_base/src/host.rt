@@ -4,6 +4,7 @@ ghost use Rattle.std.specs.Prelude.{◌≡◌, ℕ, ◌+◌, ◌-◌, ◌^◌, �
 ghost use Rattle.std.specs.declared.option.Option.{Option};
 ghost use Rattle.std.specs.Io.{ReadsAtMost};
 ghost use Rattle.std.specs.Io.KnownBytes.{Keeps, append_known};
+ghost use Rattle.sl_base.specs.Known.{told_is_known};
 ghost use Rattle.sl_base.specs.Host.{HostState, StreamState, left_of, AreLeft, Reads};
 
 use crate::files::{ChooseErr, Failed, Files};
@@ -136,6 +137,16 @@ impl<O: Open + Drop> Files for HostFiles<O> {
 pub trait Stream: Write {
     // What it holds is always known, or never.
     ghost known: { (v w : Self) → Self.contents v ≡ None → Self.contents w ≡ None };
+}
+
+// What it was given is known.
+impl Stream for &mut Vec<u8> {
+    ghost known = { λ v w. told_is_known v.now.items (Some w.now.items) };
+}
+
+// What was written of it isn't known.
+impl Stream for &mut [u8] {
+    ghost known = { λ _ _ e. e };
 }
 
 /// A sink over a writer, with a count of its faults. A write that takes nothing of a

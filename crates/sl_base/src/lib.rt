@@ -26,6 +26,3 @@ pub use steps::{Steps, tick};
 pub use system::{Disk, HostErr, HostOut, Source, WithInput};
 pub use texts::{append, append_labelled};
 pub use writing::{WriteErr, write_all};
-
-#[cfg(test)]
-mod tests;

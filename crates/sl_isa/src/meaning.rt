@@ -1,5 +1,7 @@
 //! What instructions compute, as plain data: the rows of instruction tables name it.
 
+use crate::Bank;
+
 /// How many bits of its registers a scalar instruction works on.
 #[derive(Clone, Copy, Debug, PartialEq, Eq)]
 pub enum Size {
@@ -245,6 +247,47 @@ pub enum Vector {
     },
 }
 
+/// How many bytes of a register go to memory or come from it: its low ones.
+#[derive(Clone, Copy, Debug, PartialEq, Eq)]
+pub enum Width {
+    /// 1
+    Byte,
+    /// 2
+    Half,
+    /// 4
+    Word,
+    /// 8
+    Double,
+    /// 16
+    Quad,
+}
+
+/// Where an access is made, and what becomes of its base.
+#[derive(Clone, Copy, Debug, PartialEq, Eq)]
+pub enum Addressing {
+    /// At the base plus the first number. The base stays.
+    Kept,
+    /// At the base plus the first number, which becomes the base.
+    Before,
+    /// At the base. The base plus the first number becomes the base.
+    After,
+}
+
+/// An access to memory. The bytes of a register stand in it from the lowest on, those
+/// of the first register at the lower addresses.
+#[derive(Clone, Copy, Debug, PartialEq, Eq)]
+pub struct Transfer {
+    /// Are registers stored? Else they are loaded, with zeros above what is loaded.
+    pub store: bool,
+    /// Are there two of them? Else there is one.
+    pub pair: bool,
+    /// The bank that they are of.
+    pub bank: Bank,
+    /// The bytes of each of them.
+    pub width: Width,
+    pub addressing: Addressing,
+}
+
 /// What an instruction computes.
 #[derive(Clone, Copy, Debug, PartialEq, Eq)]
 pub enum Meaning {
@@ -252,4 +295,6 @@ pub enum Meaning {
     Scalar { op: Scalar, size: Size },
     /// On vector registers.
     Vector(Vector),
+    /// An access to memory.
+    Memory(Transfer),
 }

@@ -1,5 +1,5 @@
 -- Lists by place: tests of a whole list, lists side by side, filtered and joined.
-use Rattle.std.proofs.Common.{◌≡◌, ℕ, zero, suc, ◌+◌, ◌<◌, ◌≤◌, Bool, true, false, ◌||◌, List, [], ◌∷◌, ◌++◌, map, length, Option, None, Some, refl, sym, ap, ◌∙◌, arith, slice_get, zip, option_map, get_or, take, reverse}
+use Rattle.std.proofs.Common.{◌≡◌, ℕ, zero, suc, ◌+◌, ◌<◌, ◌≤◌, Bool, true, false, ◌&&◌, ◌||◌, not, cond, filter, List, [], ◌∷◌, ◌++◌, map, length, Option, None, Some, refl, sym, ap, ◌∙◌, arith, slice_get, zip, option_map, get_or, take, reverse}
 use Rattle.std.proofs.lemmas.List.{take_more, reverse-append}
 use Rattle.std.specs.List.{list_all, list_any, enumerate_from, filter_map, cons_option}
 use Rattle.std.proofs.lemmas.Bool.{and_parts, and_from, or_parts}
@@ -26,6 +26,15 @@ module _ {A : Type 0} where
   pub list_any-from_each : (p : A → Bool) (xs : List A) → ((k : ℕ) (x : A) → slice_get xs k ≡ Some x → p x ≡ false) → list_any p xs ≡ false
   list_any-from_each p [] each = refl
   list_any-from_each p (y ∷ xs) each = ap (λ b. b || list_any p xs) (each 0 y refl) ∙ list_any-from_each p xs (λ k x at. each (suc k) x at)
+
+  -- a test of those that pass another is one of each that does
+  pub list_all-filter : (p t : A → Bool) (xs : List A) → list_all p (filter t xs) ≡ list_all (λ x. not (t x) || p x) xs
+  list_all-filter p t [] = refl
+  list_all-filter p t (x ∷ xs) = by (list_all-filter p t xs) (t x)
+    where
+      by : list_all p (filter t xs) ≡ list_all (λ y. not (t y) || p y) xs → (b : Bool) → list_all p (cond b (x ∷ filter t xs) (filter t xs)) ≡ ((not b || p x) && list_all (λ x. not (t x) || p x) xs)
+      by rest true = ap (λ b. p x && b) rest
+      by rest false = rest
 
   -- there is an element at each place within a list
   pub element_at : (xs : List A) (k : ℕ) → k < length xs → (x : A) × (slice_get xs k ≡ Some x)

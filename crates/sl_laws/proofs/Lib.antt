@@ -7,6 +7,7 @@ pub mod RegSets
 pub mod Sources
 pub mod Orders
 pub mod Numbers
+pub mod Graphs
 pub mod Valid
 pub mod State
 pub mod Rules

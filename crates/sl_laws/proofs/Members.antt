@@ -2,7 +2,7 @@
 use Rattle.std.proofs.Common.{◌≡◌, ℕ, zero, suc, ◌<◌, ◌≤◌, ◌⊎◌, Bool, true, false, cond, List, [], ◌∷◌, ◌++◌, map, filter, inl, inr, ⊎_elim, refl, sym, ap, ◌∙◌, subst, arith}
 use Rattle.std.specs.List.{list_all, flat_map}
 use Rattle.std.proofs.lemmas.Bool.{and_parts, and_from, cases_lt, cond-true}
-use Rattle.sl_model.specs.Legal.{numbers_below}
+use Rattle.sl_model.specs.Source.{numbers_below}
 
 -- an element is one of a list
 abbrev pub Has : {X : Type 0} → X → List X → Type 0

@@ -1,11 +1,13 @@
 -- The numbers below a number, in their order.
-use Rattle.std.proofs.Common.{◌≡◌, ◌≢◌, ℕ, zero, suc, ◌+◌, ◌<◌, ◌≤◌, true, false, ◌||◌, eqb, [], ◌∷◌, ◌++◌, map, length, length-append, Some, ◌⊎◌, inl, inr, ⊎_elim, refl, sym, ap, subst, ◌∙◌, true≢false, arith, slice_get, add-one, Bool}
-use Rattle.std.proofs.lemmas.Bool.{cases_Bool, or_cases, or_right, eqb-true, eq-eqb, and_from}
-use Rattle.std.proofs.lemmas.List.{map-append}
+use Rattle.std.proofs.Common.{List, ap₂, ◌&&◌, cond, filter, ◌≡◌, ◌≢◌, ℕ, zero, suc, ◌+◌, ◌<◌, ◌≤◌, true, false, ◌||◌, eqb, [], ◌∷◌, ◌++◌, map, length, length-append, Some, ◌⊎◌, inl, inr, ⊎_elim, refl, sym, ap, subst, ◌∙◌, true≢false, arith, slice_get, add-one, Bool}
+use Rattle.std.proofs.lemmas.Bool.{cases_Bool, or_cases, or_right, or_parts, or_from, eqb-true, eq-eqb, ne_eqb, and_from}
+use Rattle.std.proofs.lemmas.List.{append-nil, map-append}
+use Rattle.std.proofs.lemmas.List.Elements.{filter-append}
+use Rattle.sl_model.specs.Graph.{IsOnce}
 use Rattle.sl_model.specs.Body.{above, stands_in}
-use Rattle.sl_model.specs.Legal.{numbers_below}
+use Rattle.sl_model.specs.Source.{numbers_below}
 use Rattle.sl_laws.proofs.Elements.{slice_get-front, slice_get-seam}
-use Rattle.sl_laws.proofs.Orders.{stands_in-push, above-in, above-last}
+use Rattle.sl_laws.proofs.Orders.{stands_in-push, stands_in-filter, above-in, above-last}
 use Rattle.std.specs.List.{list_all}
 use Rattle.std.proofs.lemmas.List.Folds.{list_all-append}
 
@@ -92,3 +94,72 @@ all-below p zero each = refl
 all-below p (suc n) each =
     list_all-append p (numbers_below n) (n ∷ [])
     ∙ and_from (list_all p (numbers_below n)) (list_all p (n ∷ [])) (all-below p n (λ k less. each k (omega arith))) (and_from (p n) true (each n (omega arith)) refl)
+
+-- one more number, which is new, stands once
+IsOnce-push : (order : List ℕ) (last : ℕ) → IsOnce order → stands_in last order ≡ false → IsOnce (order ++ last ∷ [])
+unfolding stands_in
+IsOnce-push [] last once lacks = (refl, tt)
+IsOnce-push (p ∷ order) last once lacks =
+    let differ : eqb p last ≡ false = (or_parts (eqb p last) (stands_in last order) lacks).0 in
+    let turned : eqb last p ≡ false = ⊎_elim (λ t. absurd (true≢false (sym (eq-eqb p last (sym (eqb-true last p t))) ∙ differ))) (λ f. f) (cases_Bool (eqb last p)) in
+    (stands_in-push p order last ∙ or_from (stands_in p order) (eqb last p) once.0 turned, IsOnce-push order last once.1 (or_parts (eqb p last) (stands_in last order) lacks).1)
+
+-- each number below a number stands there once
+pub once-below : (n : ℕ) → IsOnce (numbers_below n)
+unfolding numbers_below
+once-below zero = tt
+once-below (suc n) = IsOnce-push (numbers_below n) n (once-below n) (not-below n n (omega arith))
+
+-- those that pass a test, of one more number
+filter_numbers-next : (t : ℕ → Bool) (n : ℕ) → filter t (numbers_below (n + 1)) ≡ filter t (numbers_below n) ++ cond (t n) (n ∷ []) []
+filter_numbers-next t n = ap (filter t) (numbers-next n) ∙ filter-append t (numbers_below n) (n ∷ [])
+
+-- one more that passes, and one more that doesn't
+pub filter_numbers-more : (t : ℕ → Bool) (n : ℕ) → t n ≡ true → filter t (numbers_below (n + 1)) ≡ filter t (numbers_below n) ++ n ∷ []
+filter_numbers-more t n pass = filter_numbers-next t n ∙ ap (λ b. filter t (numbers_below n) ++ cond b (n ∷ []) []) pass
+
+pub filter_numbers-same : (t : ℕ → Bool) (n : ℕ) → t n ≡ false → filter t (numbers_below (n + 1)) ≡ filter t (numbers_below n)
+filter_numbers-same t n fail = filter_numbers-next t n ∙ ap (λ b. filter t (numbers_below n) ++ cond b (n ∷ []) []) fail ∙ append-nil (filter t (numbers_below n))
+
+-- tests that agree on the numbers below a number leave the same ones
+pub filter_numbers-agree : (f g : ℕ → Bool) (n : ℕ) → ((k : ℕ) → k < n → f k ≡ g k) → filter f (numbers_below n) ≡ filter g (numbers_below n)
+unfolding numbers_below
+filter_numbers-agree f g zero same = refl
+filter_numbers-agree f g (suc n) same =
+    filter-append f (numbers_below n) (n ∷ [])
+    ∙ ap₂ (λ xs b. xs ++ cond b (n ∷ []) []) (filter_numbers-agree f g n (λ k less. same k (omega arith))) (same n (omega arith))
+    ∙ sym (filter-append g (numbers_below n) (n ∷ []))
+
+-- a number stands among those below another that pass a test where it passes
+pub stands_in-numbers : (t : ℕ → Bool) (n item : ℕ) → item < n → stands_in item (filter t (numbers_below n)) ≡ t item
+stands_in-numbers t n item less =
+    stands_in-filter t item (numbers_below n) ∙ ap (λ b. b && t item) (lt-below n item less)
+
+-- and none does that isn't below it
+pub stands_in-past : (t : ℕ → Bool) (n item : ℕ) → n ≤ item → stands_in item (filter t (numbers_below n)) ≡ false
+stands_in-past t n item past =
+    stands_in-filter t item (numbers_below n) ∙ ap (λ b. b && t item) (not-below n item past)
+
+-- Numbers of a longer front that are a number behind those of a list, or of the list, are both.
+module _ (t : ℕ → Bool) (q : ℕ) where
+  abbrev among : ℕ → Bool
+  among p = eqb p q || stands_in p (filter t (numbers_below q))
+
+  among-before : filter among (numbers_below q) ≡ filter t (numbers_below q)
+  among-before = filter_numbers-agree among t q (λ k less.
+      ap (λ b. b || stands_in k (filter t (numbers_below q))) (ne_eqb k q (λ (same : k ≡ q). omega arith)) ∙ stands_in-numbers t q k less)
+
+  pub filter_numbers-with : (m : ℕ) → q < m → filter (λ p. eqb p q || stands_in p (filter t (numbers_below q))) (numbers_below m) ≡ filter t (numbers_below q) ++ q ∷ []
+  unfolding numbers_below
+  filter_numbers-with zero less = absurd (omega arith)
+  filter_numbers-with (suc n) less = ⊎_elim
+      (λ (before : q < n).
+      filter-append among (numbers_below n) (n ∷ [])
+      ∙ ap₂ (λ xs b. xs ++ cond b (n ∷ []) []) (filter_numbers-with n before)
+      (ap₂ (λ a b. a || b) (ne_eqb n q (λ (same : n ≡ q). omega arith)) (stands_in-past t q n (omega arith)))
+      ∙ append-nil (filter t (numbers_below q) ++ q ∷ []))
+      (λ (last : n ≡ q).
+      filter-append among (numbers_below n) (n ∷ [])
+      ∙ ap (λ b. filter among (numbers_below n) ++ cond b (n ∷ []) []) (ap (λ b. b || stands_in n (filter t (numbers_below q))) (eq-eqb n q last))
+      ∙ subst (λ m. filter among (numbers_below m) ++ m ∷ [] ≡ filter t (numbers_below q) ++ q ∷ []) (sym last) (ap (λ xs. xs ++ q ∷ []) among-before))
+      (below_or_last n q less)

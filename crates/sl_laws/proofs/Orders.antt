@@ -1,5 +1,5 @@
 -- Orders of items: which numbers stand in them, and which above one of them.
-use Rattle.std.proofs.Common.{◌≡◌, ℕ, Bool, true, false, ◌||◌, cond, eqb, ◌⊎◌, List, [], ◌∷◌, ◌++◌, if◌then◌else◌, refl, sym, ap, ◌∙◌, subst, inl, inr, ⊎_elim, true≢false}
+use Rattle.std.proofs.Common.{◌≡◌, ℕ, Bool, true, false, ◌&&◌, ◌||◌, filter, cond, eqb, ◌⊎◌, List, [], ◌∷◌, ◌++◌, if◌then◌else◌, refl, sym, ap, ◌∙◌, subst, inl, inr, ⊎_elim, true≢false}
 use Rattle.std.specs.List.{list_all}
 use Rattle.std.proofs.Math.Bool.{or-false, or_assoc}
 use Rattle.std.proofs.lemmas.Bool.{cases_Bool, and_parts, or_parts, or_cases, or_left, or_right, eqb-true, eqb-false, eq-eqb, ne_eqb, cond-true, cond-false, both_ways}
@@ -39,6 +39,28 @@ unfolding stands_in
 stands_in-push item [] last = or-false (eqb last item)
 stands_in-push item (p ∷ order) last =
     ap (λ b. eqb p item || b) (stands_in-push item order last) ∙ sym (or_assoc (eqb p item) (stands_in item order) (eqb last item))
+
+-- a number stands among those of an order that pass a test where it stands there and passes
+pub stands_in-filter : (t : ℕ → Bool) (item : ℕ) (order : List ℕ) → stands_in item (filter t order) ≡ (stands_in item order && t item)
+unfolding stands_in
+stands_in-filter t item [] = refl
+stands_in-filter t item (p ∷ order) = by (stands_in-filter t item order) (t p) refl (cases_Bool (eqb p item))
+  where
+    never : (b : Bool) → (b && false) ≡ false
+    never true = refl
+    never false = refl
+
+    by : stands_in item (filter t order) ≡ (stands_in item order && t item) → (b : Bool) → t p ≡ b → (eqb p item ≡ true) ⊎ (eqb p item ≡ false) → stands_in item (cond b (p ∷ filter t order) (filter t order)) ≡ ((eqb p item || stands_in item order) && t item)
+    by rest true pass (inl same) =
+        ap (λ b. b || stands_in item (filter t order)) same
+        ∙ sym (ap (λ b. (b || stands_in item order) && t item) same ∙ ap t (sym (eqb-true p item same)) ∙ pass)
+    by rest true pass (inr other) =
+        ap (λ b. b || stands_in item (filter t order)) other ∙ rest ∙ sym (ap (λ b. (b || stands_in item order) && t item) other)
+    by rest false fail (inl same) =
+        let lacks : t item ≡ false = ap t (sym (eqb-true p item same)) ∙ fail in
+        rest ∙ ap (λ b. stands_in item order && b) lacks ∙ never (stands_in item order)
+        ∙ sym (ap (λ b. (eqb p item || stands_in item order) && b) lacks ∙ never (eqb p item || stands_in item order))
+    by rest false fail (inr other) = rest ∙ sym (ap (λ b. (b || stands_in item order) && t item) other)
 
 -- a test that all numbers of an order pass, at one of them
 pub standing-passes : (test : ℕ → Bool) (order : List ℕ) (q : ℕ) → list_all test order ≡ true → stands_in q order ≡ true → test q ≡ true

@@ -1,8 +1,12 @@
 -- Instructions of a set.
-use Rattle.std.proofs.Common.{◌≡◌, ℕ, ◌≤◌, length, ap, ◌∙◌, arith, suc, ◌<◌, List, ◌∷◌, subst}
+use Rattle.std.proofs.Common.{◌++◌, ◌+◌, [], get_or, ap, sym, ◌∙◌, ⊎_elim, ◌≡◌, ℕ, ◌≤◌, Bool, Option, length, arith, suc, ◌<◌, List, ◌∷◌, subst}
 use Rattle.sl_model.specs.declared.instruction.Instr.{Instr}
 use Rattle.sl_model.specs.Source.{operands, item_at}
 use Rattle.sl_model.specs.Isa.{Isa}
+use Rattle.std.proofs.lemmas.Bool.{cases_lt}
+use Rattle.std.proofs.lemmas.List.{get_or_append_left, length_push}
+use Rattle.std.proofs.Math.Seq.{get_or-append_seam}
+use Rattle.sl_model.specs.Source.{no_instr}
 use Rattle.sl_model.specs.Lawful.{IsValid, AreValid}
 use Rattle.sl_laws.proofs.Elements.{length-filter_map}
 use Rattle.sl_laws.proofs.Padded.{length-padded}
@@ -28,7 +32,31 @@ valid-on_line isa i line valid = record {
   tied = valid.tied;
 }
 
+-- And whatever its tag and its marks.
+pub valid-marked : (isa : Isa) (i : Instr) (tag : Option ℕ) (early late : Bool) → IsValid isa i → IsValid isa (record i { tag = tag; early = early; late = late })
+valid-marked isa i tag early late valid = record {
+  op = valid.op;
+  ins_shape = valid.ins_shape;
+  outs_shape = valid.outs_shape;
+  operand_count = valid.operand_count;
+  output_count = valid.output_count;
+  operand_classes = valid.operand_classes;
+  output_classes = valid.output_classes;
+  distinct = valid.distinct;
+  tied = valid.tied;
+}
+
 -- what holds of all items holds of those behind the first
 pub valid-rest : (isa : Isa) (i : Instr) (items all : List Instr) → all ≡ i ∷ items → AreValid isa all → AreValid isa items
 valid-rest isa i items all is valid = λ p within.
     subst (λ l. (k : ℕ) → k < length l → IsValid isa (item_at l k)) is valid (suc p) (omega arith)
+
+-- what holds of all items, and of one more, holds of all
+pub valid-push : (isa : Isa) (items : List Instr) (i : Instr) → AreValid isa items → IsValid isa i → AreValid isa (items ++ i ∷ [])
+valid-push isa items i valid more p within = ⊎_elim
+    (λ (before : p < length items). subst (IsValid isa) (sym (get_or_append_left items (i ∷ []) no_instr p before)) (valid p before))
+    (λ (past : length items ≤ p).
+    let count : length (items ++ i ∷ []) ≡ length items + 1 = length_push items i in
+    let last : length items ≡ p = omega arith in
+    subst (IsValid isa) (sym (ap (λ k. get_or (items ++ i ∷ []) k no_instr) (sym last) ∙ get_or-append_seam items i [] no_instr)) more)
+    (cases_lt p (length items))

@@ -16,6 +16,7 @@ pub mod Isa
 pub mod Exec
 pub mod Body
 pub mod Lawful
+pub mod Graph
 pub mod Legal
 pub mod Space
 pub mod Program

@@ -1,6 +1,6 @@
 -- Where the value of an operand comes from: the last output in its register above it, or what the
 -- register held before the first item. Source: reaching definitions, for a straight list.
-use Rattle.std.specs.Prelude.{ℕ, zero, suc, ◌+◌, List, [], ◌∷◌, length, take, map, reverse, slice_index_or, Option, None, Some, false, if◌then◌else◌}
+use Rattle.std.specs.Prelude.{ℕ, zero, suc, ◌+◌, List, [], ◌∷◌, ◌++◌, length, take, map, reverse, slice_index_or, Option, None, Some, false, if◌then◌else◌}
 use Rattle.std.specs.List.{filter_map}
 use Rattle.sl_model.specs.declared.register.Reg.{Reg}
 use Rattle.sl_model.specs.declared.instruction.Instr.{Instr}
@@ -56,6 +56,11 @@ no_instr = record {
 -- the item with a number
 abbrev pub item_at : List Instr → ℕ → Instr
 item_at items p = slice_index_or items p no_instr
+
+-- the numbers below a number
+unfoldable pub numbers_below : ℕ → List ℕ
+numbers_below zero = []
+numbers_below (suc n) = numbers_below n ++ n ∷ []
 
 -- the sources of the operands of an item, in a straight list
 unfoldable pub list_sources : List Instr → ℕ → List Source

@@ -6,6 +6,9 @@ pub const FILE_BYTES: u64 = 1048576;
 /// The most instructions of a region.
 pub const ITEMS: usize = 64;
 
+/// The most items of a set of items: their numbers are below it.
+pub const SET_ITEMS: usize = 192;
+
 /// The most instructions of a region whose orders are listed.
 pub const LISTED: usize = 8;
 

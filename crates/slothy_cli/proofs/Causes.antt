@@ -55,6 +55,7 @@ stop_at_of_lines line (why.Cut cuts.NoStart) = refl
 stop_at_of_lines line (why.Cut cuts.NoEnd) = refl
 stop_at_of_lines line (why.Cut (cuts.Twice second)) = refl
 stop_at_of_lines line (why.Form form) = refl
+stop_at_of_lines line why.TagBad = refl
 stop_at_of_lines line why.NotYet = refl
 stop_at_of_lines line (why.TooMany limit) = refl
 

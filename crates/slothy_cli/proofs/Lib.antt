@@ -4,7 +4,9 @@ pub mod OwnTimes
 pub mod Telling
 pub mod Causes
 pub mod Calls
-pub mod RegionItems
 pub mod OptChoices
-pub mod OptAnswer
 mod Parts
+pub mod Kept
+pub mod Listable
+pub mod Plans
+pub mod OptAnswer

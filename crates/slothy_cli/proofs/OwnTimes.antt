@@ -6,10 +6,13 @@ use Rattle.std.proofs.lemmas.List.Folds.{list_all-map}
 use Rattle.sl_model.specs.declared.instruction.Instr.{Instr}
 use Rattle.sl_model.specs.declared.schedule.Choice.{Choice}
 use Rattle.sl_model.specs.Cycles.{Issued, timed, cycles_of}
-use Rattle.sl_model.specs.Legal.{Problem, sources_in, numbers_below}
+use Rattle.sl_model.specs.Source.{list_sources, numbers_below}
+use Rattle.sl_model.specs.Legal.{Problem, sources_in}
+use Rattle.sl_model.specs.Isa.{Isa}
+use Rattle.sl_laws.proofs.Graphs.{list_graph-sources}
 use Rattle.sl_laws.proofs.Cycles.{length-cycles_of, length-timed}
 use Rattle.sl_laws.proofs.Numbers.{length-numbers, numbers-none, map_numbers-next, all-below}
-use Rattle.slothy_cli.specs.CostText.{region_problem, own_choice, own_schedule, own_times}
+use Rattle.slothy_cli.specs.CostText.{plain_costs, region_problem, own_choice, own_schedule, own_times}
 
 -- none of the items, and one more
 pub own-none : (items : List Instr) → [] ≡ map (own_choice items) (numbers_below 0)
@@ -34,13 +37,15 @@ own-units items =
     ∙ all-below (λ p. true) (length items) (λ p within. refl)
 
 -- the times of that schedule of that problem
-pub own-timed : (latency : ℕ) (items : List Instr) (problem : Problem) (schedule : List Choice) → problem ≡ region_problem latency items → schedule ≡ own_schedule items → timed problem.costs (sources_in problem) schedule ≡ own_times latency items
+pub own-timed : (isa : Isa) (latency : ℕ) (items : List Instr) (problem : Problem) (schedule : List Choice) → problem ≡ region_problem isa latency items → schedule ≡ own_schedule items → timed problem.costs (sources_in problem) schedule ≡ own_times latency items
 unfolding own_times
-own-timed latency items problem schedule is are = ap (λ (p : Problem). timed p.costs (sources_in p) schedule) is ∙ ap (timed (region_problem latency items).costs (sources_in (region_problem latency items))) are
+own-timed isa latency items problem schedule is are =
+    ap (λ (p : Problem). timed p.costs (sources_in p) schedule) is
+    ∙ (λ i. timed (plain_costs latency (length items)) (λ p. list_graph-sources isa items p i) (are i))
 
 -- each item has a cycle
 pub length-own_times : (latency : ℕ) (items : List Instr) → length (cycles_of (own_times latency items)) ≡ length items
 unfolding own_times
 length-own_times latency items =
     let none : length {A = Issued} [] ≡ 0 = refl in
-    omega (arith, length-cycles_of (own_times latency items), length-timed (region_problem latency items).costs (sources_in (region_problem latency items)) [] [] (own_schedule items), length-own items)
+    omega (arith, length-cycles_of (own_times latency items), length-timed (plain_costs latency (length items)) (list_sources items) [] [] (own_schedule items), length-own items)

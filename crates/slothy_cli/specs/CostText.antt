@@ -4,9 +4,10 @@ use Rattle.std.specs.Fmt.{decimal}
 use Rattle.sl_model.specs.declared.instruction.Instr.{Instr}
 use Rattle.sl_model.specs.declared.schedule.Choice.{Choice}
 use Rattle.sl_model.specs.declared.schedule.CostRow.{CostRow}
-use Rattle.sl_model.specs.Source.{item_at}
+use Rattle.sl_model.specs.Source.{item_at, list_sources, numbers_below}
 use Rattle.sl_model.specs.Cycles.{CostTable, Issued, timed, cycle_count, cycles_of, stalls}
-use Rattle.sl_model.specs.Legal.{Problem, numbers_below, sources_in, written, straight_problem}
+use Rattle.sl_model.specs.Isa.{Isa}
+use Rattle.sl_model.specs.Legal.{Problem, written, straight_problem}
 
 -- The core `one:L`: one unit takes an item in each cycle, keeps it for one, and each
 -- result is ready after L cycles.
@@ -20,9 +21,9 @@ plain_costs latency items =
     record { width = 1; rows = replicate items (plain_row latency); forwards = [] }
 
 -- The problem of a region: all registers that it writes are live-out, and none is free.
-abbrev pub region_problem : ℕ → List Instr → Problem
-region_problem latency items =
-    straight_problem items (written items) [] (plain_costs latency (length items))
+abbrev pub region_problem : Isa → ℕ → List Instr → Problem
+region_problem isa latency items =
+    straight_problem isa items (written items) [] (plain_costs latency (length items))
 
 -- an item where it stands: on the one unit, its outputs in their own registers
 abbrev pub own_choice : List Instr → ℕ → Choice
@@ -35,8 +36,7 @@ own_schedule items = map (own_choice items) (numbers_below (length items))
 -- when they are issued, the last first
 unfoldable pub own_times : ℕ → List Instr → List Issued
 own_times latency items =
-    timed (plain_costs latency (length items)) (sources_in (region_problem latency items))
-    (own_schedule items)
+    timed (plain_costs latency (length items)) (list_sources items) (own_schedule items)
 
 -- the numbers of an item: its cycle, its unit, its number, and its line in the file
 abbrev pub cost_numbers : ℕ → ℕ → ℕ → List ℕ

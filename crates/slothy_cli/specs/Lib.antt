@@ -1,9 +1,9 @@
 pub mod Command
 pub mod Shown
 pub mod CostText
+pub mod Plan
 pub mod Outcome
 pub mod Messages
 pub mod NamesShown
-pub mod Fine
 pub mod Ending
 pub mod Parts

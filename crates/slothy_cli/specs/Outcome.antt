@@ -17,9 +17,7 @@ use Rattle.asm_reader.specs.declared.reasons.Reason as reading
 use Rattle.asm_reader.specs.declared.reasons.Reason.TheVariants as why
 use Rattle.asm_reader.specs.declared.reasons.Refusal.{Refusal}
 use Rattle.asm_reader.specs.declared.reasons.Wants.{Wants}
-use Rattle.sl_isa.specs.Arch.{comments_of}
-use Rattle.asm_reader.specs.Reading.{Region, text_region, region_alone}
-use Rattle.asm_printer.specs.Printed.{line_end, region_text, written_text}
+use Rattle.asm_reader.specs.Reading.{Draft, Region, text_region, region_alone}
 use Rattle.slothy_cli.specs.declared.stop.Reason.TheVariants as reasons
 use Rattle.slothy_cli.specs.declared.stop.Quantity.TheVariants as quantities
 use Rattle.slothy_cli.specs.declared.stop.Stop.{Stop}
@@ -28,6 +26,7 @@ use Rattle.state_text.specs.Running.{run_text}
 use Rattle.slothy_cli.specs.declared.stop.File.{File}
 use Rattle.slothy_cli.specs.declared.stop.File.TheVariants as files
 use Rattle.slothy_cli.specs.Command.{Task, cost, opt, emulate, Command, wants_of}
+use Rattle.slothy_cli.specs.Plan.{schedule_text, schedule_file}
 use Rattle.slothy_cli.specs.CostText.{region_problem, cost_text}
 use Rattle.sl_model.specs.Machine.{space_of}
 use Rattle.sl_model.specs.declared.limits.TheConstants.{FILE_BYTES, LISTED, STALLS}
@@ -53,6 +52,7 @@ stop_at line (why.Cut cuts.NoStart) = Refused files.Input line reasons.NoStart
 stop_at line (why.Cut cuts.NoEnd) = Refused files.Input line reasons.NoEnd
 stop_at line (why.Cut (cuts.Twice second)) = Refused files.Input line reasons.Twice
 stop_at line (why.Form form) = Refused files.Input line (reasons.Form form)
+stop_at line why.TagBad = Refused files.Input line reasons.TagBad
 stop_at line why.NotYet = Refused files.Input line reasons.NotYet
 stop_at line (why.TooMany limit) = TooLarge files.Input line quantities.Items limit
 
@@ -64,8 +64,7 @@ region_or (Err refusal) = Err (stop_at refusal.line refusal.reason)
 -- the region of a text
 abbrev pub region_from : Language → Wants → List ℕ → Result Region Stop
 region_from language wants text =
-    region_or (text_region language.reads (comments_of language.isa.name) wants
-    (codes "slothy_start") (codes "slothy_end") text)
+    region_or (text_region language wants (codes "slothy_start") (codes "slothy_end") text)
 
 -- the region of a file with these bytes
 unfoldable pub file_region : Language → Wants → List ℕ → Result Region Stop
@@ -74,26 +73,26 @@ file_region language wants bytes = do
   text ← text_from files.Input whole
   region_from language wants text
 
--- what is asked of the written region, which is read by itself: its notes are comments
+-- what is asked of the written region, which is read by itself: its notes are passed over
 abbrev pub wants_again : Wants
-wants_again = record { limit = LISTED; once = false; no_notes = false }
+wants_again = record { limit = LISTED; once = false; notes = false }
 
 -- The text of `opt`: the written file of the best schedule; and its region, read by itself, leaves
 -- what the old one leaves, from every state.
 pub record OptText (language : Language) (latency : ℕ) (region : Region)
     (text : List ℕ) : Type 0 where
   pub schedule : List Choice
-  pub best : IsBest language.isa (region_problem latency region.items) STALLS schedule
-  pub text_is : text ≡ written_text language.printed region.parts
-      (region_problem latency region.items) schedule
-  pub new : List Instr
-  pub reads : region_alone language.reads (comments_of language.isa.name) wants_again
-      (region_text language.printed (region_problem latency region.items) schedule
-      (line_end region.parts.before)) ≡ Ok new
+  pub best : IsBest (region_problem language.isa latency region.items) STALLS schedule
+  pub text_is : text ≡ schedule_file language region
+      (region_problem language.isa latency region.items) schedule
+  pub new : Draft
+  pub reads : region_alone language wants_again
+      (schedule_text language region (region_problem language.isa latency region.items) schedule)
+      ≡ Ok new
   pub same : (s : State)
       → TagsHoldOf (space_of language.isa.name) (touches language.isa region.items s)
       → Leaves language.isa (λ flagged c. language.step_of (if flagged then Subs else Sub 1) c 0)
-      (written region.items) [] (Straight region.items) (Straight new) s
+      (written region.items) [] (Straight region.items) (Straight new.items) s
 
 -- what `opt` answers for the core `one:L` to the region of a file: the text of the best
 -- schedule, or that there is none
@@ -102,7 +101,7 @@ OptAnswers language latency region (Ok text) = OptText language latency region t
 OptAnswers language latency region (Err stop) =
     (stop ≡ Infeasible STALLS)
     × ((schedule : List Choice)
-    → InSpace language.isa (region_problem latency region.items) STALLS schedule → ⊥)
+    → InSpace (region_problem language.isa latency region.items) STALLS schedule → ⊥)
 
 -- the text that a run leaves, or the first bad line of the state file
 abbrev pub state_or : Result (List ℕ) ℕ → Result (List ℕ) Stop

@@ -21,20 +21,20 @@ pub enum Task<'a> {
 
 impl Task<'_> {
     /// What is wanted of a region: at most 64 instructions; by `opt` at most 8, which write each
-    /// register once. Notes aren't read yet, and are refused.
+    /// register once.
     pub fn wants(&self) -> Wants
         ensures { result ≡ wants_of (shown_task self.now) }
     {
         match self {
             Task::Opt { .. } => Wants {
-                limit: LISTED,
+                limit: LISTED as u16,
                 once: true,
-                no_notes: true,
+                notes: true,
             },
             _ => Wants {
-                limit: ITEMS,
+                limit: ITEMS as u16,
                 once: false,
-                no_notes: true,
+                notes: true,
             },
         }
     }

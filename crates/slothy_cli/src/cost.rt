@@ -36,15 +36,21 @@ fn own_schedule(alloc: Global, items: &[Instr]) -> Result<Vec<Choice>, NoMemory>
 }
 
 /// When items, at most 64, are issued as they stand on the core `one:latency`.
-pub(crate) fn own_times(alloc: Global, items: &[Instr], latency: u8) -> Result<Times, NoMemory>
+pub(crate) fn own_times<A: Arch>(
+    arch: &A,
+    alloc: Global,
+    items: &[Instr],
+    latency: u8,
+) -> Result<Times, NoMemory>
     requires few { length items.now ≤ ITEMS }
     requires least { 1 ≤ latency }
+    requires valid { AreValid A.language.isa items.now }
     ensures cycles { IfOk result
         (λ times. times.cycles.items ≡ cycles_of (own_times latency items.now)) }
     ensures count { IfOk result (λ times. times.count ≡ cycle_count (own_times latency items.now)) }
     ensures stalls { IfOk result (λ times. times.stalls ≡ stalls 1 (own_times latency items.now)) }
 {
-    let problem = region_problem(alloc, items, latency)?;
+    let problem = region_problem(arch, alloc, items, latency)?;
     let schedule = own_schedule(alloc, items)?;
     times_of(alloc, &problem, &schedule)
 }
@@ -126,7 +132,7 @@ pub fn cost_text<A: Arch>(
     requires valid { AreValid A.language.isa items.now }
     ensures { IfOk result (λ text. text.items ≡ cost_text A.language.printed latency items.now) }
 {
-    let times = own_times(alloc, items, latency)?;
+    let times = own_times(arch, alloc, items, latency)?;
     let mut text = Vec::new(alloc);
     push_head(
         &mut text,

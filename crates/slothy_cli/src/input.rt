@@ -1,8 +1,12 @@
 //! The region of a file: its items, or why it has none.
-ghost use Rattle.std.specs.Prelude.{◌≡◌, ◌≤◌, ◌<◌, ◌^◌, length, IfOk};
+ghost use Rattle.std.specs.Prelude.{◌≡◌, ◌≤◌, ◌<◌, ◌^◌, length, IfOk, Result};
+ghost use Rattle.asm_reader.specs.Reading.{Region as RegionValue};
+ghost use Rattle.asm_reader.specs.Views.{refusal_of};
+ghost use Rattle.asm_reader.specs.declared.reasons.Refusal.{Refusal as RefusalValue};
+ghost use Rattle.asm_reader.specs.Regions.{IsRegion};
 ghost use Rattle.asm_reader.specs.RegionViews.{region_of};
-ghost use Rattle.sl_model.specs.Answers.{Answers, Gives};
-ghost use Rattle.slothy_cli.specs.Outcome.{text_from, stop_at, region_from, file_region};
+ghost use Rattle.sl_model.specs.Answers.{Answers, Gives, Refuses};
+ghost use Rattle.slothy_cli.specs.Outcome.{text_from, stop_at, region_or, region_from, file_region};
 ghost use Rattle.slothy_cli.specs.Shown.{stop_told};
 ghost use Rattle.sl_model.specs.declared.limits.TheConstants.{FILE_BYTES};
 
@@ -44,13 +48,14 @@ fn stop_of(refusal: Refusal) -> Stop
         RegionReason::Cut(CutRefusal::NoEnd) => Reason::NoEnd,
         RegionReason::Cut(CutRefusal::Twice { .. }) => Reason::Twice,
         RegionReason::Form(form) => Reason::Form(form),
+        RegionReason::TagBad => Reason::TagBad,
         RegionReason::NotYet => Reason::NotYet,
         RegionReason::TooMany(limit) => {
             return Stop::TooLarge {
                 file: File::Input,
                 line,
                 quantity: Quantity::Items,
-                limit: limit as u64,
+                limit: u64::from(limit),
             };
         }
     };
@@ -58,6 +63,17 @@ fn stop_of(refusal: Refusal) -> Stop
         file: File::Input,
         line,
         reason,
+    }
+}
+
+// The failure where a text gives no region.
+fn failure_of(failure: ReadRefusal) -> Failure
+    ensures { (answer : Result RegionValue RefusalValue) → Refuses (refusal_of failure) answer
+        → Refuses (stop_told result) (region_or answer) }
+{
+    match failure {
+        ReadRefusal::Refused(refusal) => Failure::Stopped(stop_of(refusal)),
+        ReadRefusal::NoMemory => Failure::NoMemory,
     }
 }
 
@@ -69,12 +85,12 @@ fn region_from<'a, A: Arch>(
     text: &'a str,
 ) -> Result<Region<'a>, Failure>
     requires { length text.now < 2 ^ 31 }
-    ensures { Gives stop_told region_of result (region_from A.language wants text.now) }
+    ensures answer { Gives stop_told region_of result (region_from A.language wants text.now) }
+    ensures right { IfOk result (λ region. IsRegion A.language wants (region_of region)) }
 {
     match read_region(arch, alloc, text, START, END, wants) {
         Ok(region) => Ok(region),
-        Err(ReadRefusal::Refused(refusal)) => Err(Failure::Stopped(stop_of(refusal))),
-        Err(ReadRefusal::NoMemory) => Err(Failure::NoMemory),
+        Err(failure) => Err(failure_of(failure)),
     }
 }
 
@@ -86,7 +102,8 @@ pub fn file_region<'a, A: Arch>(
     bytes: &'a [u8],
 ) -> Result<Region<'a>, Failure>
     requires { length bytes.now ≤ FILE_BYTES }
-    ensures { Gives stop_told region_of result (file_region A.language wants bytes.now) }
+    ensures answer { Gives stop_told region_of result (file_region A.language wants bytes.now) }
+    ensures right { IfOk result (λ region. IsRegion A.language wants (region_of region)) }
 {
     let text = text_from(File::Input, bytes)?;
     region_from(arch, alloc, wants, text)

@@ -5,6 +5,7 @@ mod command;
 mod cost;
 mod input;
 mod opt;
+mod plan;
 mod problem;
 mod report;
 pub mod status;

@@ -1,13 +1,14 @@
 //! The problem of a region's items on the core `one:L`.
 ghost use Rattle.std.specs.Prelude.{◌≡◌, ◌≤◌, length, IfOk};
-ghost use Rattle.legal_space.specs.Timed.{HasKnownSources};
+ghost use Rattle.sl_model.specs.Lawful.{AreValid};
 ghost use Rattle.slothy_cli.specs.CostText.{plain_row, plain_costs, region_problem};
 ghost use Rattle.sl_model.specs.declared.limits.TheConstants.{ITEMS};
 
 use issue_cost::{CostRow, Costs, NoMemory};
 use legal_space::{Problem, written};
+use sl_isa::Arch;
 use sl_model::instruction::Instr;
-use std::alloc::{AllocError, Global};
+use std::alloc::Global;
 
 /// How many items the core issues in a cycle.
 const WIDTH: u8 = 1;
@@ -38,14 +39,19 @@ fn plain_costs(alloc: Global, latency: u8, items: usize) -> Result<Costs, NoMemo
 
 /// The problem of items, at most 64, on the core `one:latency`: all registers that they write
 /// are live-out, and none is free.
-pub fn region_problem(alloc: Global, items: &[Instr], latency: u8) -> Result<Problem, NoMemory>
+pub fn region_problem<A: Arch>(
+    arch: &A,
+    alloc: Global,
+    items: &[Instr],
+    latency: u8,
+) -> Result<Problem, NoMemory>
     requires least { 1 ≤ latency }
     requires few { length items.now ≤ ITEMS }
-    ensures problem { IfOk result (λ problem. problem ≡ region_problem latency items.now) }
-    ensures sources { IfOk result (λ problem. HasKnownSources problem) }
+    requires valid { AreValid A.language.isa items.now }
+    ensures { IfOk result
+        (λ problem. problem ≡ region_problem A.language.isa latency items.now) }
 {
     let live = written(alloc, items)?;
     let costs = plain_costs(alloc, latency, items.len())?;
-    let items = Vec::from_slice(alloc, items).map_err(AllocError::from)?;
-    Problem::straight(alloc, items, &live, &[], costs)
+    Problem::straight(arch, alloc, items, &live, &[], &costs)
 }

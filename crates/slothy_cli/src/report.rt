@@ -64,6 +64,7 @@ fn reason_text(reason: Reason) -> &'static str
         Reason::NoStart => "NoStart",
         Reason::NoEnd => "NoEnd",
         Reason::Twice => "Twice",
+        Reason::TagBad => "TagBad",
         Reason::NotYet => "NotYet",
         Reason::Form(form) => form_text(form),
         Reason::StateBad => "StateBad",

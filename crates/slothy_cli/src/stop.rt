@@ -17,6 +17,8 @@ pub enum Reason {
     NoEnd,
     /// A marker stands a second time.
     Twice,
+    /// A note on the line isn't right, or stands where it can't.
+    TagBad,
     /// The line has something that isn't built yet.
     NotYet,
     /// A statement is no instruction.

@@ -1,5 +1,6 @@
 //! From a command and its files to the text.
 ghost use Rattle.std.specs.Prelude.{◌≡◌, ◌≤◌, length, IfOk, IfErr};
+ghost use Rattle.asm_reader.specs.Regions.{IsRegion};
 ghost use Rattle.asm_reader.specs.RegionViews.{region_of};
 ghost use Rattle.std.specs.List.{AllByRecursion};
 ghost use Rattle.sl_model.specs.Lawful.{IsValid};
@@ -7,7 +8,6 @@ ghost use Rattle.slothy_cli.specs.Shown.{shown, shown_task, unread_ending, faile
 ghost use Rattle.sl_model.specs.Answers.{Gives};
 ghost use Rattle.slothy_cli.specs.Command.{HasLatency, wants_of};
 ghost use Rattle.slothy_cli.specs.Outcome.{run_answer};
-ghost use Rattle.slothy_cli.specs.Fine.{AreFine};
 ghost use Rattle.slothy_cli.specs.Ending.{AreOf, known_of, state_known, files_run, HasText, HasCause};
 ghost use Rattle.slothy_cli.specs.Parts.{RunText, RunCause, RegionText, RegionCause};
 ghost use Rattle.sl_model.specs.declared.limits.TheConstants.{FILE_BYTES};
@@ -112,7 +112,7 @@ fn text_of_region<A: Arch, F: Files>(
     files: &mut F,
 ) -> Result<Vec<u8>, Ending>
     requires least { HasLatency (shown_task task) }
-    requires fine { AreFine A.language (wants_of (shown_task task)) region.now.items.items }
+    requires right { IsRegion A.language (wants_of (shown_task task)) (region_of region.now) }
     ensures same_files { F.holds files.new ≡ F.holds files.old }
     ensures never_falls { F.faults files.old ≤ F.faults files.new }
     ensures text { IfOk result

@@ -1,6 +1,8 @@
-//! Tests of lines and tokens, symbols, states and state files.
+//! Tests of files and sinks, lines and tokens, symbols, states and state files.
 #![tactic(auto)]
 
+#[cfg(test)]
+mod files;
 #[cfg(test)]
 mod lines;
 #[cfg(test)]

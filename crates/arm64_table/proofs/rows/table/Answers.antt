@@ -3,7 +3,7 @@ use Rattle.sl_isa.specs.Arch.{padded_values}
 use Rattle.arm64_table.specs.Document.{each, document}
 use Rattle.arm64_table.proofs.rows.table.Goals as goal
 
-counted : length document ≡ 341
+counted : length document ≡ 425
 unfolding padded_values each document
 counted = refl
 

@@ -1,13 +1,11 @@
-use Rattle.asm_reader.proofs.Kept.{few_items, valid_items, each_valid}
+use Rattle.std.proofs.Common.{sym, subst}
+use Rattle.sl_text.specs.Cut.{parts_of}
+use Rattle.asm_reader.specs.DraftViews.{draft_value}
+use Rattle.asm_reader.specs.Regions.{IsRegion}
+use Rattle.asm_reader.proofs.Kept.{is_region}
 use Rattle.asm_reader.proofs.region.read_region.Goals as goal
 
-pub returns-clause-few : goal.returns-clause-few
-returns-clause-few g c = few_items g.A.Arch.language.reads _ c.args.wants _ _ _ c.in_ok-items.items.items c.in_ok-items.ensures
-
-pub returns-clause-valid : goal.returns-clause-valid
-returns-clause-valid g c = valid_items g.A.Arch.language.isa g.A.Arch.language.reads g.met.A.Arch.lawful.read _ c.args.wants _ _ _ c.in_ok-items.items.items c.in_ok-items.ensures
-
-pub returns-clause-each_valid : goal.returns-clause-each_valid
-returns-clause-each_valid g c =
-    each_valid g.A.Arch.language.isa c.in_ok-items.items.items
-    (valid_items g.A.Arch.language.isa g.A.Arch.language.reads g.met.A.Arch.lawful.read _ c.args.wants _ _ _ c.in_ok-items.items.items c.in_ok-items.ensures)
+pub returns-clause-right : goal.returns-clause-right
+returns-clause-right g c =
+    subst (IsRegion g.A.Arch.language c.args.wants) (sym c.region_from.ensures)
+    (is_region g.A.Arch.language g.met.A.Arch.lawful.read c.args.wants (parts_of c.in_ok-cut-2.cut) (draft_value c.in_ok-draft.draft) _ c.in_ok-draft.ensures)

@@ -1,5 +1,5 @@
 use Rattle.std.proofs.Common.{refl, sym, ◌∙◌}
-use Rattle.asm_reader.proofs.Words.{stands-here, stands-further, stands-nowhere}
+use Rattle.asm_reader.proofs.Standing.{stands-here, stands-further, stands-nowhere}
 use Rattle.asm_reader.proofs.region.stands_in.Goals as goal
 
 pub loop-place-init : goal.loop-place-init

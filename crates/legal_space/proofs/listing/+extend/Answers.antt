@@ -8,7 +8,6 @@ use Rattle.sl_model.specs.Legal.{first_broken}
 use Rattle.sl_model.specs.Body.{is_full}
 use Rattle.legal_space.specs.Listing.{listed, best_of}
 use Rattle.legal_space.proofs.ListingLemmas.{listed-done, listed-left, offered-full, offered-none, step-taken, step-end, under}
-use Rattle.legal_space.proofs.TimesLemmas.{known_sources}
 use Rattle.legal_space.proofs.listing.+extend.Goals as goal
 
 -- what holds of an Ok, said otherwise
@@ -23,21 +22,21 @@ popped n before last items count is =
     (λ i. take (front i) (is i)) ∙ take-append_seam before (last ∷ [])
 
 pub returns-then-is_full-clause-best : goal.returns-then-is_full-clause-best
-returns-then-is_full-clause-best g t c =
+returns-then-is_full-clause-best t c =
     ok-map c.offer.result
-    (λ kept. kept ∙ offered-full g.A.Arch.language.isa c.args.problem.now c.args.choices.now c.args.left c.args.done.now.items _ c.args.best.now c.deref-then-is_full.ensures.value
-    (ap (λ xs. is_full c.args.problem.now.order (reverse xs)) (sym c.deref.ensures.value) ∙ sym c.is_full.ensures ∙ c.if-is_full.true))
+    (λ kept. kept ∙ offered-full c.args.problem.now c.args.choices.now c.args.left c.args.done.now.items _ c.args.best.now c.deref-then-is_full.ensures.value
+    (ap (λ xs. is_full c.args.problem.now.graph.order (reverse xs)) (sym c.deref.ensures.value) ∙ sym c.is_full.ensures ∙ c.if-is_full.true))
     c.offer.ensures
 
 pub returns-then-left-eq0-clause-best : goal.returns-then-left-eq0-clause-best
-returns-then-left-eq0-clause-best g t c =
-    let rest : is_full c.args.problem.now.order (reverse c.args.done.now.items) ≡ false = ap (λ xs. is_full c.args.problem.now.order (reverse xs)) (sym c.deref.ensures.value) ∙ sym c.is_full.ensures ∙ c.if-is_full.false in
+returns-then-left-eq0-clause-best t c =
+    let rest : is_full c.args.problem.now.graph.order (reverse c.args.done.now.items) ≡ false = ap (λ xs. is_full c.args.problem.now.graph.order (reverse xs)) (sym c.deref.ensures.value) ∙ sym c.is_full.ensures ∙ c.if-is_full.false in
     offered-none c.args.problem.now c.args.best.now
-    ∙ ap (best_of c.args.problem.now c.args.best.now) (sym (ap (λ n. listed g.A.Arch.language.isa c.args.problem.now c.args.choices.now n (reverse c.args.done.now.items)) c.if-left-eq0.true
-    ∙ listed-done g.A.Arch.language.isa c.args.problem.now c.args.choices.now (reverse c.args.done.now.items) rest))
+    ∙ ap (best_of c.args.problem.now c.args.best.now) (sym (ap (λ n. listed c.args.problem.now c.args.choices.now n (reverse c.args.done.now.items)) c.if-left-eq0.true
+    ∙ listed-done c.args.problem.now c.args.choices.now (reverse c.args.done.now.items) rest))
 
 pub loop-choice-preserved : goal.loop-choice-preserved
-loop-choice-preserved g t c =
+loop-choice-preserved t c =
     let none : Choice = record { item = 0; unit = 0; outs = [] } in
     let choice : Choice = get_or c.args.choices.now c.loop-choice.choice-index none in
     let before : List Choice = c.args.done.now.items in
@@ -49,22 +48,19 @@ loop-choice-preserved g t c =
     record {
       done = c.pop.ensures.rest ∙ popped (vec_len c.extend.new.done) before choice c.extend.new.done.items count left;
       room = c.pop.ensures.capacity ∙ c.in_ok-extend.ensures.room ∙ c.push_reserved.ensures.capacity ∙ c.loop-choice.invariant.room;
-      rest = step-taken g.A.Arch.language.isa c.args.problem.now c.args.choices.now (c.args.left - 1) (reverse before) c.loop-choice.choice-index none c.loop-choice.best c.extend.new.best
-          (best_of c.args.problem.now c.args.best.now (flat_map (under g.A.Arch.language.isa c.args.problem.now c.args.choices.now (c.args.left - 1) (reverse before)) c.args.choices.now)) c.loop-choice-test.true
-          (ap (λ xs. is_some (first_broken g.A.Arch.language.isa c.args.problem.now (reverse xs) choice)) (sym (c.deref-in-loop-choice.ensures.value ∙ c.loop-choice.invariant.done))
+      rest = step-taken c.args.problem.now c.args.choices.now (c.args.left - 1) (reverse before) c.loop-choice.choice-index none c.loop-choice.best c.extend.new.best
+          (best_of c.args.problem.now c.args.best.now (flat_map (under c.args.problem.now c.args.choices.now (c.args.left - 1) (reverse before)) c.args.choices.now)) c.loop-choice-test.true
+          (ap (λ xs. is_some (first_broken c.args.problem.now (reverse xs) choice)) (sym (c.deref-in-loop-choice.ensures.value ∙ c.loop-choice.invariant.done))
           ∙ ap is_some (sym c.first_broken.ensures) ∙ sym c.is_some.ensures ∙ c.if-is_some.false)
           (c.in_ok-extend.ensures.best
-          ∙ ap (λ xs. best_of c.args.problem.now c.loop-choice.best (listed g.A.Arch.language.isa c.args.problem.now c.args.choices.now (c.args.left - 1) xs))
+          ∙ ap (λ xs. best_of c.args.problem.now c.loop-choice.best (listed c.args.problem.now c.args.choices.now (c.args.left - 1) xs))
           (ap reverse pushed ∙ reverse-append before (choice ∷ [])))
           c.loop-choice.invariant.rest;
     }
 
 pub returns-clause-best : goal.returns-clause-best
-returns-clause-best g t c =
-    let rest : is_full c.args.problem.now.order (reverse c.args.done.now.items) ≡ false = ap (λ xs. is_full c.args.problem.now.order (reverse xs)) (sym c.deref.ensures.value) ∙ sym c.is_full.ensures ∙ c.if-is_full.false in
-    step-end g.A.Arch.language.isa c.args.problem.now c.args.choices.now (c.args.left - 1) (reverse c.args.done.now.items) c.loop-choice.choice-index c.loop-choice.best
-    (best_of c.args.problem.now c.args.best.now (flat_map (under g.A.Arch.language.isa c.args.problem.now c.args.choices.now (c.args.left - 1) (reverse c.args.done.now.items)) c.args.choices.now)) c.loop-choice-test.false c.loop-choice.invariant.rest
-    ∙ ap (best_of c.args.problem.now c.args.best.now) (sym (listed-left g.A.Arch.language.isa c.args.problem.now c.args.choices.now c.args.left (reverse c.args.done.now.items) c.if-left-eq0.false rest))
-
-pub offer-requires-clause-sources : goal.offer-requires-clause-sources
-offer-requires-clause-sources g t c = known_sources c.args.problem.now c.requires.listable.sources
+returns-clause-best t c =
+    let rest : is_full c.args.problem.now.graph.order (reverse c.args.done.now.items) ≡ false = ap (λ xs. is_full c.args.problem.now.graph.order (reverse xs)) (sym c.deref.ensures.value) ∙ sym c.is_full.ensures ∙ c.if-is_full.false in
+    step-end c.args.problem.now c.args.choices.now (c.args.left - 1) (reverse c.args.done.now.items) c.loop-choice.choice-index c.loop-choice.best
+    (best_of c.args.problem.now c.args.best.now (flat_map (under c.args.problem.now c.args.choices.now (c.args.left - 1) (reverse c.args.done.now.items)) c.args.choices.now)) c.loop-choice-test.false c.loop-choice.invariant.rest
+    ∙ ap (best_of c.args.problem.now c.args.best.now) (sym (listed-left c.args.problem.now c.args.choices.now c.args.left (reverse c.args.done.now.items) c.if-left-eq0.false rest))

@@ -10,7 +10,7 @@ loop-item-init c = record { are = c.new-choices.ensures.items ∙ sym (items-non
 pub loop-item-preserved : goal.loop-item-preserved
 loop-item-preserved c =
     let fits : c.units-units.result < 2 ^ 16 = c.units-units.type_inv in
-    let units : c.units-units.result ≡ (row_of c.args.problem.now.costs c.loop-item.item).units = c.units-units.ensures.units ∙ ap (λ v. (row_of v c.loop-item.item).units) c.costs.ensures in
+    let units : c.units-units.result ≡ (row_of c.args.problem.now.costs c.loop-item.item).units = c.units-units.ensures.units ∙ ap (λ v. (row_of v c.loop-item.item).units) c.costs.ensures.costs in
     record {
       are = c.in_ok-push_choices.ensures ∙ ap (λ xs. xs ++ own_choices c.args.problem.now c.loop-item.item) c.loop-item.invariant.are ∙ sym (items-more c.args.problem.now c.loop-item.item);
       few_units = below_more (λ p. (row_of c.args.problem.now.costs p).units < 2 ^ 16) c.loop-item.item c.loop-item.invariant.few_units (omega arith);

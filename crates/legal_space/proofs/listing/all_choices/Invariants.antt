@@ -1,7 +1,7 @@
 use Rattle.std.proofs.Common.{◌≡◌, ℕ, ◌^◌, ◌<◌}
 use Rattle.std.specs.List.{flat_map}
 use Rattle.sl_model.specs.Cycles.{row_of}
-use Rattle.sl_model.specs.Legal.{numbers_below}
+use Rattle.sl_model.specs.Source.{numbers_below}
 use Rattle.legal_space.specs.Listing.{own_choices}
 use Rattle.legal_space.proofs.listing.all_choices.Given as goal
 

@@ -7,6 +7,6 @@ use Rattle.sl_model.specs.Legal.{operand_classes}
 use Rattle.legal_space.proofs.outputs.suits_readers.Given as goal
 
 abbrev pub invariant-loop-reader : goal.invariant-loop-reader
-invariant-loop-reader g l =
-    list_all (λ p. list_all (λ x. not (same_source x.0 (Item l.item l.place)) || set_has x.1 l.reg) (operand_classes g.A.Arch.language.isa l.problem p)) (drop l.reader-index l.order)
-    ≡ list_all (λ p. list_all (λ x. not (same_source x.0 (Item l.item l.place)) || set_has x.1 l.reg) (operand_classes g.A.Arch.language.isa l.problem p)) l.order
+invariant-loop-reader l =
+    list_all (λ p. list_all (λ x. not (same_source x.0 (Item l.item l.place)) || set_has x.1 l.reg) (operand_classes l.problem p)) (drop l.reader-index l.order)
+    ≡ list_all (λ p. list_all (λ x. not (same_source x.0 (Item l.item l.place)) || set_has x.1 l.reg) (operand_classes l.problem p)) l.order

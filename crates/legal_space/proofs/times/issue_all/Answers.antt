@@ -6,7 +6,7 @@ use Rattle.sl_model.specs.Cycles.{CostTable, Issued, issued, issued_from, timed,
 use Rattle.sl_model.specs.Legal.{sources_in}
 use Rattle.issue_cost.specs.Timeline.{IsFreeBy, Timeline}
 use Rattle.issue_cost.proofs.ForCallers.{IsFreeBy-weaken}
-use Rattle.legal_space.specs.Above.{HasCycles}
+use Rattle.legal_space.specs.Timed.{HasCycles}
 use Rattle.legal_space.proofs.TimesLemmas.{has_cycles-none, early-none, has_cycles-more, early-more, next_issued, timed-more, timed-done, item-known}
 use Rattle.legal_space.proofs.times.issue_all.Goals as goal
 use Rattle.sl_laws.proofs.Elements.{reverse_take-more}
@@ -21,9 +21,9 @@ loop-choice-init c =
       count = ap length none;
       pushes = ap (λ v. length v.pushes) c.requires.empty;
       room = ap (λ v. v.room) c.requires.empty;
-      items = ap length c.requires.none ∙ length-replicate (length c.args.problem.now.items) 0;
-      has = subst (λ done. HasCycles c.args.latest.now [] done) (sym none) (has_cycles-none (length c.args.problem.now.items) c.args.latest.now c.requires.none);
-      early = early-none (length c.args.problem.now.items) c.args.latest.now c.requires.none;
+      items = ap length c.requires.none ∙ length-replicate (length c.args.problem.now.graph.items) 0;
+      has = subst (λ done. HasCycles c.args.latest.now [] done) (sym none) (has_cycles-none (length c.args.problem.now.graph.items) c.args.latest.now c.requires.none);
+      early = early-none (length c.args.problem.now.graph.items) c.args.latest.now c.requires.none;
       free = subst (λ done. IsFreeBy (512 * 0) done) (sym none) tt;
     }
 
@@ -47,8 +47,8 @@ loop-choice-preserved c =
     let next : List ℕ = set latest c.from.result c.push-cycle.result in
     let ready : ℕ = c.ready_among-ready.result in
     let cycle : ℕ = c.push-cycle.result in
-    let given : c.costs-costs.result.now ≡ costs = c.costs-costs.ensures in
-    let theirs : c.sources_of-sources.result.now ≡ sources_in c.args.problem.now choice.item = c.sources_of-sources.ensures in
+    let given : c.costs-costs.result.now ≡ costs = c.costs-costs.ensures.costs in
+    let theirs : c.sources_of-sources.result.now ≡ sources_in c.args.problem.now choice.item = c.sources_of-sources.ensures.sources in
     let at : ready ≡ ready_from costs before done choice.item 0 (sources_in c.args.problem.now choice.item) =
     c.ready_among-ready.ensures.ready before done c.loop-choice.invariant.has
     ∙ ap₂ (λ (v : CostTable) (sources : List Source). ready_from v before done choice.item 0 sources) given theirs in
@@ -60,7 +60,7 @@ loop-choice-preserved c =
     let waited : IsFreeBy (512 * k + 255) done = IsFreeBy-weaken (512 * k) (512 * k + 255) done (omega arith) c.loop-choice.invariant.free in
     let soon : cycle ≤ 512 * k + 255 =
     c.push-cycle.ensures.within (512 * k + 255) waited soon_ready in
-    let known : choice.item < length c.args.problem.now.items = item-known (length c.args.problem.now.items) schedule k d c.requires.known c.loop-choice-test.true in
+    let known : choice.item < length c.args.problem.now.graph.items = item-known (length c.args.problem.now.graph.items) schedule k d c.requires.known c.loop-choice-test.true in
     let inside : choice.item < length latest = subst (λ n. choice.item < n) (sym c.loop-choice.invariant.items) known in
     let stored : next ≡ set latest choice.item cycle = ap (λ n. set latest n cycle) c.from.ensures in
     let pushed : length c.push-cycle.new.self.pushes ≡ length c.loop-choice.issue.pushes + 1 =

@@ -2,7 +2,7 @@ use Rattle.std.proofs.Common.{◌≡◌, ◌*◌, ◌≤◌, length, take, drop,
 use Rattle.sl_model.specs.Cycles.{issued, timed, timed_from, cycles_of}
 use Rattle.sl_model.specs.Legal.{sources_in}
 use Rattle.issue_cost.specs.Timeline.{IsFreeBy}
-use Rattle.legal_space.specs.Above.{HasCycles}
+use Rattle.legal_space.specs.Timed.{HasCycles}
 use Rattle.legal_space.proofs.times.issue_all.Given as goal
 
 abbrev pub invariant-loop-choice : goal.invariant-loop-choice
@@ -12,7 +12,7 @@ invariant-loop-choice l = record {
   count : length (issued l.issue.pushes) ≡ l.choice-index;
   pushes : length l.issue.pushes ≡ l.choice-index;
   room : l.issue.room ≡ length l.schedule;
-  items : length l.latest ≡ length l.problem.items;
+  items : length l.latest ≡ length l.problem.graph.items;
   has : HasCycles l.latest (reverse (take l.choice-index l.schedule)) (issued l.issue.pushes);
   early : EachIndex l.latest (λ q. get_or l.latest q 0 ≤ 512 * l.choice-index);
   free : IsFreeBy (512 * l.choice-index) (issued l.issue.pushes);

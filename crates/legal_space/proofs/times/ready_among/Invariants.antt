@@ -1,7 +1,7 @@
 use Rattle.std.proofs.Common.{◌≡◌, ℕ, ◌+◌, ◌≤◌, List, drop, max, EachIndex, get_or}
 use Rattle.sl_model.specs.declared.schedule.Choice.{Choice}
 use Rattle.sl_model.specs.Cycles.{Issued, ready_from}
-use Rattle.legal_space.specs.Above.{HasCycles}
+use Rattle.legal_space.specs.Timed.{HasCycles}
 use Rattle.legal_space.proofs.times.ready_among.Given as goal
 
 -- all is ready by the latest of what was seen and of what is left

@@ -1,5 +1,5 @@
 use Rattle.std.proofs.Common.{◌≡◌, map}
-use Rattle.sl_model.specs.Legal.{numbers_below}
+use Rattle.sl_model.specs.Source.{numbers_below}
 use Rattle.slothy_cli.specs.CostText.{own_choice}
 use Rattle.slothy_cli.proofs.cost.own_schedule.Given as goal
 

@@ -8,31 +8,31 @@ use Rattle.slothy_cli.proofs.OwnTimes.{length-own, own-known, own-units, own-tim
 use Rattle.slothy_cli.proofs.cost.own_times.Goals as goal
 
 pub times_of-requires-clause-few : goal.times_of-requires-clause-few
-times_of-requires-clause-few c = omega (arith, ap length c.deref.ensures.value, ap length c.in_ok-schedule.ensures, length-own c.args.items.now, c.requires.few)
+times_of-requires-clause-few g c = omega (arith, ap length c.deref.ensures.value, ap length c.in_ok-schedule.ensures, length-own c.args.items.now, c.requires.few)
 
 pub times_of-requires-clause-known : goal.times_of-requires-clause-known
-times_of-requires-clause-known c =
-    ap (λ s. list_all (λ (ch : Choice). nat_lt ch.item (length c.in_ok-problem.problem.items)) s) (c.deref.ensures.value ∙ c.in_ok-schedule.ensures)
-    ∙ ap (λ p. list_all (λ (ch : Choice). nat_lt ch.item (length p.items)) (own_schedule c.args.items.now)) c.in_ok-problem.ensures.problem
+times_of-requires-clause-known g c =
+    ap (λ s. list_all (λ (ch : Choice). nat_lt ch.item (length c.in_ok-problem.problem.graph.items)) s) (c.deref.ensures.value ∙ c.in_ok-schedule.ensures)
+    ∙ ap (λ p. list_all (λ (ch : Choice). nat_lt ch.item (length p.graph.items)) (own_schedule c.args.items.now)) c.in_ok-problem.ensures
     ∙ own-known c.args.items.now
 
 pub times_of-requires-clause-units : goal.times_of-requires-clause-units
-times_of-requires-clause-units c =
+times_of-requires-clause-units g c =
     ap (λ s. list_all (λ (ch : Choice). nat_lt ch.unit 16) s) (c.deref.ensures.value ∙ c.in_ok-schedule.ensures)
     ∙ own-units c.args.items.now
 
 pub returns-clause-cycles : goal.returns-clause-cycles
-returns-clause-cycles c =
+returns-clause-cycles g c =
     subst (λ (done : List Issued). IfOk c.times_of.result (λ times. times.cycles.items ≡ cycles_of done))
-    (own-timed c.args.latency c.args.items.now c.in_ok-problem.problem c.deref.result.now c.in_ok-problem.ensures.problem (c.deref.ensures.value ∙ c.in_ok-schedule.ensures)) c.times_of.ensures.cycles
+    (own-timed g.A.Arch.language.isa c.args.latency c.args.items.now c.in_ok-problem.problem c.deref.result.now c.in_ok-problem.ensures (c.deref.ensures.value ∙ c.in_ok-schedule.ensures)) c.times_of.ensures.cycles
 
 pub returns-clause-count : goal.returns-clause-count
-returns-clause-count c =
+returns-clause-count g c =
     subst (λ (done : List Issued). IfOk c.times_of.result (λ times. times.count ≡ cycle_count done))
-    (own-timed c.args.latency c.args.items.now c.in_ok-problem.problem c.deref.result.now c.in_ok-problem.ensures.problem (c.deref.ensures.value ∙ c.in_ok-schedule.ensures)) c.times_of.ensures.count
+    (own-timed g.A.Arch.language.isa c.args.latency c.args.items.now c.in_ok-problem.problem c.deref.result.now c.in_ok-problem.ensures (c.deref.ensures.value ∙ c.in_ok-schedule.ensures)) c.times_of.ensures.count
 
 pub returns-clause-stalls : goal.returns-clause-stalls
-returns-clause-stalls c =
+returns-clause-stalls g c =
     subst (λ (done : List Issued). IfOk c.times_of.result (λ times. times.stalls ≡ stalls 1 done))
-    (own-timed c.args.latency c.args.items.now c.in_ok-problem.problem c.deref.result.now c.in_ok-problem.ensures.problem (c.deref.ensures.value ∙ c.in_ok-schedule.ensures))
-    (subst (λ p. IfOk c.times_of.result (λ times. times.stalls ≡ stalls p.costs.width (timed c.in_ok-problem.problem.costs (sources_in c.in_ok-problem.problem) c.deref.result.now))) c.in_ok-problem.ensures.problem c.times_of.ensures.stalls)
+    (own-timed g.A.Arch.language.isa c.args.latency c.args.items.now c.in_ok-problem.problem c.deref.result.now c.in_ok-problem.ensures (c.deref.ensures.value ∙ c.in_ok-schedule.ensures))
+    (subst (λ p. IfOk c.times_of.result (λ times. times.stalls ≡ stalls p.costs.width (timed c.in_ok-problem.problem.costs (sources_in c.in_ok-problem.problem) c.deref.result.now))) c.in_ok-problem.ensures c.times_of.ensures.stalls)

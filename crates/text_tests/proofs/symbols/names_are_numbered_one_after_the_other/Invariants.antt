@@ -3,4 +3,4 @@ use Rattle.sl_isa.specs.SymbolViews.{pairs}
 use Rattle.text_tests.proofs.symbols.names_are_numbered_one_after_the_other.Given as goal
 
 abbrev pub invariant-loop-number : goal.invariant-loop-number
-invariant-loop-number g l = length (pairs l.symbols) ≤ l.number-counter
+invariant-loop-number l = length (pairs l.symbols) ≤ l.number

@@ -1,0 +1,262 @@
+//! Reading a statement, and adding it to a draft.
+ghost use Rattle.std.specs.Prelude.{◌≡◌, ◌<◌, ◌≤◌, true, length, IfOk, IfSome, OnOk, Result};
+ghost use Rattle.std.specs.List.{filter_map, list_any};
+ghost use Rattle.sl_model.specs.declared.instruction.Instr.{Instr as InstrValue};
+ghost use Rattle.sl_model.specs.Answers.{Gives, Refuses};
+ghost use Rattle.sl_model.specs.Exec.{has_access};
+ghost use Rattle.sl_model.specs.Lawful.{IsValid};
+ghost use Rattle.sl_isa.specs.Arch.{reason_of};
+ghost use Rattle.sl_isa.specs.declared.reasons.FormReason.{FormReason as FormReasonValue};
+ghost use Rattle.asm_reader.specs.DraftViews.{draft_value, Leaves};
+ghost use Rattle.asm_reader.specs.NoteViews.{said_value};
+ghost use Rattle.asm_reader.specs.Reading as spec;
+ghost use Rattle.asm_reader.specs.Views.{lexemes, statement_value, refusal_of};
+
+use crate::draft::{Awaiting, Draft};
+use crate::note::{Said, note_said};
+use crate::reasons::{ReadRefusal, Reason, Refusal, Wants};
+use crate::statements::{Statement, is_unbuilt, note_text, words_of};
+use sl_isa::{Arch, FormErr, FormReason, Instr, Reg, place_of};
+use sl_text::{Comments, Token};
+use std::alloc::{AllocError, Global};
+
+/// How a text is read.
+#[derive(Clone, Copy)]
+pub(crate) struct Manner {
+    /// Where memory is taken.
+    pub alloc: Global,
+    /// Which characters start a comment.
+    pub comments: Comments,
+    /// What is asked of the region.
+    pub wants: Wants,
+}
+
+// Does one of some items write a register?
+fn is_written(items: &[Instr], reg: Reg) -> bool
+    ensures { result ≡ list_any (spec.writes reg) items.now }
+{
+    items.iter().any(|item| place_of(item, reg).is_some())
+}
+
+// Is one of some registers written by one of some items?
+fn is_any_written(items: &[Instr], regs: &[Option<Reg>]) -> bool
+    ensures { result ≡ list_any (λ r. list_any (spec.writes r) items.now)
+        (filter_map (λ r. r) regs.now) }
+{
+    regs.iter()
+        .filter_map(|reg| *reg)
+        .any(|reg| is_written(items, reg))
+}
+
+// Adds an item that was read on a line.
+fn push_item(
+    wants: Wants,
+    accesses: bool,
+    line: u32,
+    draft: &mut Draft<'_>,
+    item: Instr,
+) -> Result<(), ReadRefusal>
+    ensures { Leaves result (draft_value draft.new)
+        (spec.with_item wants accesses line (draft_value draft.old) item) }
+{
+    if draft.items.len() >= usize::from(wants.limit) {
+        let reason = Reason::TooMany(wants.limit);
+        return Err(ReadRefusal::Refused(Refusal { line, reason }));
+    }
+    if wants.once && is_any_written(&draft.items, &item.outs) {
+        let reason = Reason::NotYet;
+        return Err(ReadRefusal::Refused(Refusal { line, reason }));
+    }
+    draft.push(accesses, line, item)?;
+    Ok(())
+}
+
+// The refusal of words that are no instruction.
+fn form_refusal(
+    alloc: Global,
+    line: u32,
+    words: &[Token<'_>],
+    form: FormReason,
+) -> Result<Refusal, AllocError>
+    ensures { IfOk result (λ refusal. refusal ≡ spec.form_refusal line (lexemes words.now) form) }
+{
+    if is_unbuilt(alloc, words)? {
+        let reason = Reason::NotYet;
+        return Ok(Refusal { line, reason });
+    }
+    let reason = Reason::Form(form);
+    Ok(Refusal { line, reason })
+}
+
+// The failure where words weren't read.
+fn words_refusal(alloc: Global, line: u32, words: &[Token<'_>], error: FormErr) -> ReadRefusal
+    ensures { (answer : Result InstrValue FormReasonValue)
+        → Refuses (reason_of error) answer
+        → Refuses (refusal_of result) (spec.instr_or line (lexemes words.now) answer) }
+{
+    match error {
+        FormErr::Refused(form) => match form_refusal(alloc, line, words, form) {
+            Ok(refusal) => ReadRefusal::Refused(refusal),
+            Err(_) => ReadRefusal::NoMemory,
+        },
+        FormErr::NoMemory => ReadRefusal::NoMemory,
+    }
+}
+
+// The instruction of the words of a statement, if it has words.
+fn read_instr<A: Arch>(
+    arch: &A,
+    alloc: Global,
+    line: u32,
+    words: &[Token<'_>],
+) -> Result<Option<Instr>, ReadRefusal>
+    ensures answer { Gives refusal_of (λ instr. instr) result
+        (spec.instr_of A.language.reads line (lexemes words.now)) }
+    ensures valid { IfOk result (λ instr. IfSome instr (λ i. IsValid A.language.isa i)) }
+{
+    if words.is_empty() {
+        return Ok(None);
+    }
+    match arch.read_form(alloc, words) {
+        Ok(instr) => Ok(Some(instr)),
+        Err(error) => Err(words_refusal(alloc, line, words, error)),
+    }
+}
+
+// What the note of a statement says, if it has one and notes are read.
+fn said_of<'a>(
+    manner: Manner,
+    statement: Statement<'_, 'a>,
+) -> Result<Option<Said<'a>>, ReadRefusal>
+    ensures { Gives refusal_of said_value result
+        (spec.said_of manner.wants (statement_value statement.entry)) }
+{
+    if !manner.wants.notes {
+        return Ok(None);
+    }
+    let Some(text) = note_text(statement.tokens) else {
+        return Ok(None);
+    };
+    match note_said(manner.alloc, statement.line, text) {
+        Ok(Some(said)) => Ok(Some(said)),
+        Ok(None) => {
+            let line = statement.line;
+            let reason = Reason::TagBad;
+            Err(ReadRefusal::Refused(Refusal { line, reason }))
+        }
+        Err(_) => Err(ReadRefusal::NoMemory),
+    }
+}
+
+// Does an instruction access memory?
+fn accesses<A: Arch>(arch: &A, instr: &Instr) -> bool
+    requires { IsValid A.language.isa instr.now }
+    ensures { result ≡ has_access (A.language.isa.info instr.now.form) }
+{
+    arch.info(instr.form).size > 0
+}
+
+// May a note say this of an instruction?
+fn may_say(accesses: bool, said: &Option<Said<'_>>) -> bool
+    ensures { result ≡ spec.may_say accesses (said_value said.now) }
+{
+    match said {
+        Some(Said::Item(remark)) => remark.tag.is_none() || accesses,
+        _ => true,
+    }
+}
+
+// Does the last instruction stand on a line, and may this be said of it?
+fn awaits(line: u32, said: &Option<Said<'_>>, awaiting: Option<Awaiting>) -> bool
+    ensures { result ≡ spec.awaits line (said_value said.now) awaiting }
+{
+    match awaiting {
+        Some(last) => last.line == line && may_say(last.accesses, said),
+        None => false,
+    }
+}
+
+// May a note stand on a line without an instruction of its statement?
+fn may_stand(line: u32, awaiting: Option<Awaiting>, said: &Option<Said<'_>>) -> bool
+    ensures { result ≡ spec.may_stand line awaiting (said_value said.now) }
+{
+    match said {
+        Some(Said::Item(_)) => awaits(line, said, awaiting),
+        _ => true,
+    }
+}
+
+// Adds what a note says, if there is one.
+fn push_said<'a>(draft: &mut Draft<'a>, said: &Option<Said<'a>>) -> Result<(), AllocError>
+    requires { spec.has_place (said_value said.now) (draft_value draft.old).awaiting ≡ true }
+    ensures { OnOk result
+        (draft_value draft.new ≡ spec.with_said (draft_value draft.old) (said_value said.now)) }
+{
+    match said {
+        Some(said) => draft.say(said),
+        None => Ok(()),
+    }
+}
+
+// Adds a note that stands without an instruction of its statement.
+fn push_note<'a>(
+    line: u32,
+    draft: &mut Draft<'a>,
+    said: &Option<Said<'a>>,
+) -> Result<(), ReadRefusal>
+    ensures { Leaves result (draft_value draft.new)
+        (spec.with_note line (draft_value draft.old) (said_value said.now)) }
+{
+    if !may_stand(line, draft.awaiting, said) {
+        let reason = Reason::TagBad;
+        return Err(ReadRefusal::Refused(Refusal { line, reason }));
+    }
+    push_said(draft, said)?;
+    Ok(())
+}
+
+// Adds an instruction with its note.
+fn push_noted<'a>(
+    wants: Wants,
+    accesses: bool,
+    line: u32,
+    draft: &mut Draft<'a>,
+    said: &Option<Said<'a>>,
+    item: Instr,
+) -> Result<(), ReadRefusal>
+    ensures { Leaves result (draft_value draft.new)
+        (spec.with_noted wants accesses line (draft_value draft.old) (said_value said.now) item) }
+{
+    if !may_say(accesses, said) {
+        let reason = Reason::TagBad;
+        return Err(ReadRefusal::Refused(Refusal { line, reason }));
+    }
+    push_item(wants, accesses, line, draft, item)?;
+    push_said(draft, said)?;
+    Ok(())
+}
+
+/// Adds a statement to a draft.
+#[tactic(auto, unfolding(crate::specs::Reading::with_statement))]
+pub(crate) fn push_statement<'a, A: Arch>(
+    arch: &A,
+    manner: Manner,
+    statement: Statement<'_, 'a>,
+    draft: &mut Draft<'a>,
+) -> Result<(), ReadRefusal>
+    ensures { Leaves result (draft_value draft.new)
+        (spec.with_statement A.language manner.wants (draft_value draft.old)
+        (statement_value statement.entry)) }
+{
+    let line = statement.line;
+    let words = words_of(manner.alloc, statement.tokens)?;
+    let instr = read_instr(arch, manner.alloc, line, &words)?;
+    let said = said_of(manner, statement)?;
+    match instr {
+        Some(item) => {
+            let accesses = accesses(arch, &item);
+            push_noted(manner.wants, accesses, line, draft, &said, item)
+        }
+        None => push_note(line, draft, &said),
+    }
+}

@@ -1,0 +1,4 @@
+pub mod Above
+pub mod FewSources
+pub mod LastSteps
+pub mod Sets

@@ -1,5 +1,0 @@
--- The steps are counted in the ledger of the blank that was made.
-use Rattle.sl_base.proofs.tests.steps_and_gates.Given as goal
-
-abbrev pub ghosts-two_steps : goal.ghosts-two_steps
-ghosts-two_steps a = record { name = a.blank.name; parts = a.blank.parts }
