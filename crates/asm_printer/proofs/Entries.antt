@@ -68,7 +68,7 @@ words-inside (c ∷ text) h =
     let both = and_parts (is_word_byte c) (list_all is_word_byte text) h in
     and_from (reading.is_inside_line c) (list_all reading.is_inside_line text) (word-inside c both.0) (words-inside text both.1)
 
-both-pass : (a b : Bool) → (if a then b else false) ≡ true → (a ≡ true) × (b ≡ true)
+pub both-pass : (a b : Bool) → (if a then b else false) ≡ true → (a ≡ true) × (b ≡ true)
 both-pass true b e = (refl, e)
 both-pass false b e = cc
 
@@ -137,7 +137,7 @@ all-printed language comments tags (i ∷ items) (note ∷ notes) lawful read na
       all-printed language comments tags items notes lawful read.1 names both.1,
     )
 
--- there is a line for each item, on which it is read
+-- there is a line for each item, which it spells
 
 pub length-entries : (printed : Instr → List ℕ) (tags : List (List ℕ)) (items : List Instr) (notes : List NoteValue) → length notes ≡ length items → length (entries printed tags items notes) ≡ length items
 unfolding entries
@@ -145,10 +145,9 @@ length-entries printed tags [] notes n = refl
 length-entries printed tags (i ∷ items) [] n = absurd (omega arith)
 length-entries printed tags (i ∷ items) (note ∷ notes) n = ap suc (length-entries printed tags items notes (omega arith))
 
-pub entries-on_lines : (n : ℕ) (printed : Instr → List ℕ) (tags : List (List ℕ)) (items : List Instr) (notes : List NoteValue) → length notes ≡ length items
-    → reading.on_lines n (reading.printed_items (entries printed tags items notes)) ≡ reading.on_lines n (map unmarked items)
-unfolding entries reading.on_lines
-entries-on_lines n printed tags [] notes e = refl
-entries-on_lines n printed tags (i ∷ items) [] e = absurd (omega arith)
-entries-on_lines n printed tags (i ∷ items) (note ∷ notes) e =
-    ap (λ more. record (unmarked i) { line = n } ∷ more) (entries-on_lines (n + 1) printed tags items notes (omega arith))
+pub entries-unmarked : (printed : Instr → List ℕ) (tags : List (List ℕ)) (items : List Instr) (notes : List NoteValue) → length notes ≡ length items
+    → map unmarked (reading.printed_items (entries printed tags items notes)) ≡ map unmarked items
+unfolding entries
+entries-unmarked printed tags [] notes e = refl
+entries-unmarked printed tags (i ∷ items) [] e = absurd (omega arith)
+entries-unmarked printed tags (i ∷ items) (note ∷ notes) e = ap (λ more. unmarked i ∷ more) (entries-unmarked printed tags items notes (omega arith))

@@ -113,49 +113,46 @@ no_semicolons (token ∷ words) rest plain =
 
 -- ---- the line of an instruction, whose text gives these words
 
--- The tokens of a line are words and a comment.
-pub record IsLine (comments : Comments) (line : List ℕ) (words : List Lexeme) : Type 0 where
+-- The tokens of a line are words and a comment with a note.
+pub record IsLine (comments : Comments) (line : List ℕ) (words : List Lexeme) (note : List ℕ) : Type 0 where
   pub place : ℕ
-  pub rest : List ℕ
-  pub tokens_are : tokens comments false line ≡ words ++ line_comment place rest ∷ []
+  pub tokens_are : tokens comments false line ≡ words ++ line_comment place (codes " @slothy:" ++ note) ∷ []
   pub plain : list_all is_instruction_token words ≡ true
 
 -- the words and the comment are the only statement, and the words are its words
-pub line_statements : (comments : Comments) (line : List ℕ) (words : List Lexeme) (is : IsLine comments line words)
-    → statements (tokens comments false line) ≡ (words ++ line_comment is.place is.rest ∷ []) ∷ []
-line_statements comments line words is =
+pub line_statements : (comments : Comments) (line : List ℕ) (words : List Lexeme) (note : List ℕ) (is : IsLine comments line words note)
+    → statements (tokens comments false line) ≡ (words ++ line_comment is.place (codes " @slothy:" ++ note) ∷ []) ∷ []
+line_statements comments line words note is =
     ap statements is.tokens_are
-    ∙ statements_whole (words ++ line_comment is.place is.rest ∷ []) (no_semicolons words (line_comment is.place is.rest ∷ []) is.plain)
+    ∙ statements_whole (words ++ line_comment is.place (codes " @slothy:" ++ note) ∷ []) (no_semicolons words (line_comment is.place (codes " @slothy:" ++ note) ∷ []) is.plain)
 
-pub line_words : (comments : Comments) (line : List ℕ) (words : List Lexeme) (is : IsLine comments line words)
-    → words_of (words ++ line_comment is.place is.rest ∷ []) ≡ words
+pub line_words : (comments : Comments) (line : List ℕ) (words : List Lexeme) (note : List ℕ) (is : IsLine comments line words note)
+    → words_of (words ++ line_comment is.place (codes " @slothy:" ++ note) ∷ []) ≡ words
 unfolding words_of
-line_words comments line words is = words_first words (line_comment is.place is.rest ∷ []) is.plain ∙ append-nil words
+line_words comments line words note is = words_first words (line_comment is.place (codes " @slothy:" ++ note) ∷ []) is.plain ∙ append-nil words
 
 -- behind the line no comment is open
-pub line_closed : (comments : Comments) (line : List ℕ) (words : List Lexeme) → IsLine comments line words → open_behind false (tokens comments false line) ≡ false
+pub line_closed : (comments : Comments) (line : List ℕ) (words : List Lexeme) (note : List ℕ) → IsLine comments line words note → open_behind false (tokens comments false line) ≡ false
 unfolding open_behind tokens_at
-line_closed comments line words is =
+line_closed comments line words note is =
     ap (open_behind false) is.tokens_are
-    ∙ words_closed words (line_comment is.place is.rest ∷ []) is.plain (subst (AllByRecursion IsClosed) is.tokens_are (closed_from comments 0 0 line))
+    ∙ words_closed words (line_comment is.place (codes " @slothy:" ++ note) ∷ []) is.plain (subst (AllByRecursion IsClosed) is.tokens_are (closed_from comments 0 0 line))
 
 -- the line of an instruction
 pub item_tokens : (reads : Reads) (comments : Comments) (text note : List ℕ) (i : Instr) (spelled : IsSpelledAt reads comments text 8 (codes " // @slothy:" ++ note) i)
-    → IsLine comments (codes "        " ++ (text ++ (codes " // @slothy:" ++ note))) spelled.words
+    → IsLine comments (codes "        " ++ (text ++ (codes " // @slothy:" ++ note))) spelled.words note
 unfolding tokens_at tokens_from
 item_tokens reads comments text note i spelled = record {
   place = 8 + length text + 1;
-  rest = codes " @slothy:" ++ note;
   tokens_are = spelled.tokens ∙ ap (λ more. spelled.words ++ more) (comment_tokens comments (8 + length text + 1) (codes " @slothy:" ++ note));
   plain = spelled.plain;
 }
 
 -- the first line of a region
-pub head_tokens : (comments : Comments) (note : List ℕ) → IsLine comments (codes "        // @slothy:region" ++ note) []
+pub head_tokens : (comments : Comments) (note : List ℕ) → IsLine comments (codes "        // @slothy:region" ++ note) [] (codes "region" ++ note)
 unfolding tokens_at tokens_from
 head_tokens comments note = record {
   place = 8;
-  rest = codes " @slothy:region" ++ note;
   tokens_are = comment_tokens comments 8 (codes " @slothy:region" ++ note);
   plain = refl;
 }

@@ -1,5 +1,5 @@
 -- A printed region, line by line.
-use Rattle.std.proofs.Common.{◌≡◌, ℕ, ◌+◌, ◌<◌, ◌≤◌, Bool, true, false, cond, not, ◌&&◌, eqb, List, [], ◌∷◌, ◌++◌, length, map, codes, None, Some, Ok, inl, inr, refl, ap, sym, ◌∙◌, subst, arith, append_assoc, append-nil, length-append, lt-ltb}
+use Rattle.std.proofs.Common.{◌≡◌, ℕ, ◌+◌, ◌<◌, ◌≤◌, ◌-◌, nat_lt, take, drop, slice_get, Result, if◌then◌else◌, Bool, true, false, cond, not, ◌&&◌, eqb, List, [], ◌∷◌, ◌++◌, length, map, codes, None, Some, Ok, inl, inr, refl, ap, sym, ◌∙◌, subst, arith, append_assoc, append-nil, length-append, lt-ltb}
 use Rattle.std.specs.List.{list_all, AllByRecursion}
 use Rattle.std.proofs.lemmas.List.Folds.{list_all-append}
 use Rattle.sl_model.specs.declared.instruction.Instr.{Instr}
@@ -10,14 +10,20 @@ use Rattle.sl_model.specs.Exec.{has_access}
 use Rattle.sl_model.specs.Isa.{Isa}
 use Rattle.sl_model.specs.ResultSteps.{◌>>=◌}
 use Rattle.sl_isa.specs.Arch.{comments_of}
-use Rattle.sl_isa.specs.Language.{Language, Reads, is_no_feed}
+use Rattle.sl_isa.specs.Language.{Language, Reads, is_no_feed, unmarked}
 use Rattle.asm_reader.specs.declared.reasons.Reason.TheVariants as reason
 use Rattle.asm_reader.specs.declared.reasons.Wants.{Wants}
-use Rattle.asm_reader.specs.Statements.{Statement, words_of, note_text, on_line, outside, statements_of}
-use Rattle.asm_reader.specs.Reading.{Draft, refused, no_draft, writes_again, longer, with_item, instr_or, instr_of, said_by, said_of, with_said, with_statement, with_statements, region_alone}
-use Rattle.asm_printer.specs.Lines.{Printed, IsPrinted, IsLineEnd, item_line, item_lines, region_lines, printed_items, on_lines, is_inside_line}
+use Rattle.asm_reader.specs.Notes.{Remark, Said, of_item, of_region, note_said}
+use Rattle.asm_reader.specs.declared.reasons.Refusal.{Refusal}
+use Rattle.std.specs.Str.{str_eq_ignore_ascii_case}
+use Rattle.std.proofs.lemmas.List.{length-map}
+use Rattle.asm_printer.proofs.NoteWords.{IsSaid}
+use Rattle.asm_reader.specs.Statements.{Statement, words_of, note_in, note_text, on_line, outside, statements_of}
+use Rattle.asm_reader.specs.Reading.{Draft, refused, no_draft, writes_again, longer, with_item, with_last, marked, with_remark, may_say, right_note, instr_or, instr_of, said_by, said_of, with_said, with_statement, with_statements, region_alone}
+use Rattle.asm_printer.specs.Lines.{Printed, IsPrinted, IsLineEnd, item_line, item_lines, region_lines, printed_items, is_inside_line}
 use Rattle.asm_reader.proofs.ForCallers.{no_statements, statement_read, parts_read, no_lines_read, line_read}
 use Rattle.asm_printer.proofs.LineTokens.{line_comment, IsLine, line_statements, line_words, line_closed, item_tokens, head_tokens}
+use Rattle.std.proofs.lemmas.Bool.Decides.{nat_tests}
 use Rattle.std.proofs.lemmas.Bool.{and_parts, not-true}
 
 -- ---- lines and their ends
@@ -110,29 +116,57 @@ head_whole note end inside ends = whole_line [] (head_of note) end refl (omega a
 body_whole : (reads : Reads) (comments : Comments) (printed : Printed) (end : List ℕ) → IsPrinted reads comments printed → IsLineEnd end → IsWhole (body_of printed) end
 body_whole reads comments printed end is ends = whole_line (codes "        " ++ printed.text) (codes " // @slothy:" ++ printed.note) end is.text (omega arith) is.note ends
 
+-- ---- the note of a line
+
+-- the last token
+last_token : (words : List Lexeme) (token : Lexeme) → slice_get (words ++ token ∷ []) (length (words ++ token ∷ []) - 1) ≡ Some token
+last_token words token =
+    let place : length (words ++ token ∷ []) - 1 ≡ length words = omega (arith, length-append words (token ∷ [])) in
+    ap (slice_get (words ++ token ∷ [])) place ∙ behind words
+  where
+    behind : (words : List Lexeme) → slice_get (words ++ token ∷ []) (length words) ≡ Some token
+    behind [] = refl
+    behind (first ∷ words) = behind words
+
+not_less : (n most : ℕ) → most ≤ n → nat_lt n most ≡ false
+not_less n most h = grind (arith, nat_tests)
+
+note_there : (place : ℕ) (note : List ℕ) → note_in (Some (line_comment place (codes " @slothy:" ++ note))) ≡ Some note
+note_there place note =
+    let text : List ℕ = codes "// @slothy:" ++ note in
+    ap (λ b. if (if b then false else str_eq_ignore_ascii_case (take 11 text) (codes "// @slothy:")) then Some (drop 11 text) else None) (not_less (length text) 11 (omega arith))
+
 -- ---- what each line adds
 
--- a draft with printed instructions, on lines that are numbered from a first one
-pub drafted : Isa → ℕ → Draft → List Printed → Draft
-drafted isa number draft [] = draft
-drafted isa number draft (first ∷ more) = drafted isa (number + 1) (longer (has_access (isa.info first.item.form)) number draft first.item) more
+-- what is read last is the last item, with its tag and its marks
+marked-last : (f : Instr → Instr) (items : List Instr) (i : Instr) → unmarked (f i) ≡ unmarked i → map unmarked (with_last f (items ++ i ∷ [])) ≡ map unmarked items ++ unmarked i ∷ []
+unfolding with_last
+marked-last f [] i e = ap (λ j. j ∷ []) e
+marked-last f (a ∷ []) i e = ap (λ j. unmarked a ∷ j ∷ []) e
+marked-last f (a ∷ b ∷ items) i e = ap (λ more. unmarked a ∷ more) (marked-last f (b ∷ items) i e)
 
--- its items
-pub drafted_items : (isa : Isa) (number : ℕ) (draft : Draft) (printed : List Printed) → (drafted isa number draft printed).items ≡ draft.items ++ on_lines number (printed_items printed)
-unfolding drafted on_lines
-drafted_items isa number draft [] = sym (append-nil draft.items)
-drafted_items isa number draft (first ∷ more) =
-    let i = record first.item { line = number } in
-    drafted_items isa (number + 1) (longer (has_access (isa.info first.item.form)) number draft first.item) more
-    ∙ append_assoc draft.items (i ∷ []) (on_lines (number + 1) (printed_items more))
+-- A region is read as these items, their lines, tags and marks aside.
+pub record ReadsAs (read : Result Draft Refusal) (items : List Instr) : Type 0 where
+  pub new : Draft
+  pub is : read ≡ Ok new
+  pub same : map unmarked new.items ≡ items
 
-module _ (language : Language) (wants : Wants) (some : (i : Instr) → language.reads [] ≡ Ok i → ⊥) (quiet : wants.notes ≡ false) (once : wants.once ≡ false) where
+-- the note of a line that says something of its instruction
+abbrev pub IsNoted : Isa → Printed → Type 0
+IsNoted isa printed = IsSaid (has_access (isa.info printed.item.form)) printed.note
+
+module _ (language : Language) (wants : Wants) (some : (i : Instr) → language.reads [] ≡ Ok i → ⊥) (often : wants.notes ≡ true) (once : wants.once ≡ false) where
   abbrev pub comments : Comments
   comments = comments_of language.isa.name
 
-  -- where notes are passed over, none says anything
-  nothing_said : (statement : Statement) → said_of wants statement ≡ Ok None
-  nothing_said statement = ap (λ b. cond b (said_by statement.line (note_text statement.tokens)) (Ok None)) quiet
+  -- the note behind a line's words
+  note_behind : (line : ℕ) (words : List Lexeme) (place : ℕ) (note : List ℕ) (said : Said) → note_said line note ≡ Some said
+      → said_of wants (record { line = line; tokens = words ++ line_comment place (codes " @slothy:" ++ note) ∷ [] }) ≡ Ok (Some said)
+  note_behind line words place note said is =
+      let tokens : List Lexeme = words ++ line_comment place (codes " @slothy:" ++ note) ∷ [] in
+      ap (λ b. cond b (said_by line (note_text tokens)) (Ok None)) often
+      ∙ ap (said_by line) (ap note_in (last_token words (line_comment place (codes " @slothy:" ++ note))) ∙ note_there place note)
+      ∙ ap (right_note line) is
 
   -- an instruction for which there is room
   item_added : (accesses : Bool) (line : ℕ) (draft : Draft) (i : Instr) → length draft.items < wants.limit → with_item wants accesses line draft i ≡ Ok (longer accesses line draft i)
@@ -145,67 +179,97 @@ module _ (language : Language) (wants : Wants) (some : (i : Instr) → language.
   words_read line [] i read = absurd (some i read)
   words_read line (first ∷ words) i read = ap (instr_or line (first ∷ words)) read
 
-  -- a statement of an instruction
-  statement_added : (line : ℕ) (draft : Draft) (tokens words : List Lexeme) (i : Instr) → words_of tokens ≡ words → language.reads words ≡ Ok i → length draft.items < wants.limit
-      → with_statement language wants draft (record { line = line; tokens = tokens }) ≡ Ok (longer (has_access (language.isa.info i.form)) line draft i)
-  statement_added line draft tokens words i are read room =
+  -- a statement of an instruction, with its note
+  statement_added : (line : ℕ) (draft : Draft) (tokens words : List Lexeme) (i : Instr) (remark : Remark) → words_of tokens ≡ words → language.reads words ≡ Ok i
+      → said_of wants (record { line = line; tokens = tokens }) ≡ Ok (Some (of_item remark)) → may_say (has_access (language.isa.info i.form)) (Some (of_item remark)) ≡ true
+      → length draft.items < wants.limit
+      → with_statement language wants draft (record { line = line; tokens = tokens }) ≡ Ok (with_remark (longer (has_access (language.isa.info i.form)) line draft i) remark)
+  statement_added line draft tokens words i remark are read said may room =
       let accesses = has_access (language.isa.info i.form) in
-      parts_read language wants draft (record { line = line; tokens = tokens }) (Some i) None
-      (ap (instr_of language.reads line) are ∙ words_read line words i read) (nothing_said (record { line = line; tokens = tokens }))
-      ∙ ap (λ r. r >>= λ more. Ok (with_said more None)) (item_added accesses line draft i room)
+      parts_read language wants draft (record { line = line; tokens = tokens }) (Some i) (Some (of_item remark))
+      (ap (instr_of language.reads line) are ∙ words_read line words i read) said
+      ∙ ap (λ b. cond b (with_item wants accesses line draft i >>= λ more. Ok (with_said more (Some (of_item remark)))) (refused line reason.TagBad)) may
+      ∙ ap (λ r. r >>= λ more. Ok (with_said more (Some (of_item remark)))) (item_added accesses line draft i room)
 
-  -- and one without words
-  empty_added : (line : ℕ) (draft : Draft) (tokens : List Lexeme) → words_of tokens ≡ [] → with_statement language wants draft (record { line = line; tokens = tokens }) ≡ Ok draft
-  empty_added line draft tokens are =
-      parts_read language wants draft (record { line = line; tokens = tokens }) None None (ap (instr_of language.reads line) are) (nothing_said (record { line = line; tokens = tokens }))
+  -- and one without words, of which the note is of the region
+  head_added : (line : ℕ) (draft : Draft) (tokens : List Lexeme) (mask : ℕ) → words_of tokens ≡ [] → said_of wants (record { line = line; tokens = tokens }) ≡ Ok (Some (of_region mask))
+      → with_statement language wants draft (record { line = line; tokens = tokens }) ≡ Ok (with_said draft (Some (of_region mask)))
+  head_added line draft tokens mask are said =
+      parts_read language wants draft (record { line = line; tokens = tokens }) None (Some (of_region mask)) (ap (instr_of language.reads line) are) said
 
   -- a line of words and a comment
-  line_added : (number : ℕ) (draft more : Draft) (line end : List ℕ) (lines : List (List ℕ)) (words : List Lexeme) → IsWhole line end → (is : IsLine comments line words)
-      → with_statement language wants draft (record { line = number; tokens = words ++ line_comment is.place is.rest ∷ [] }) ≡ Ok more
+  line_added : (number : ℕ) (draft more : Draft) (line end : List ℕ) (lines : List (List ℕ)) (words : List Lexeme) (note : List ℕ) → IsWhole line end → (is : IsLine comments line words note)
+      → with_statement language wants draft (record { line = number; tokens = words ++ line_comment is.place (codes " @slothy:" ++ note) ∷ [] }) ≡ Ok more
       → with_statements language wants draft (statements_of comments false number ((line ++ end) ∷ lines)) ≡ with_statements language wants more (statements_of comments false (number + 1) lines)
-  line_added number draft more line end lines words whole is added =
-      let statement : Statement = record { line = number; tokens = words ++ line_comment is.place is.rest ∷ [] } in
+  line_added number draft more line end lines words note whole is added =
+      let statement : Statement = record { line = number; tokens = words ++ line_comment is.place (codes " @slothy:" ++ note) ∷ [] } in
       let all : with_statements language wants draft (on_line number (outside false (tokens comments false (without_end (line ++ end))))) ≡ Ok more =
       ap (λ text. with_statements language wants draft (on_line number (tokens comments false text))) whole.before
-      ∙ ap (λ each. with_statements language wants draft (map (λ each. record { line = number; tokens = each }) each)) (line_statements comments line words is)
+      ∙ ap (λ each. with_statements language wants draft (map (λ each. record { line = number; tokens = each }) each)) (line_statements comments line words note is)
       ∙ statement_read language wants draft more statement [] added
       ∙ no_statements language wants more in
       line_read language wants comments false number draft more (line ++ end) lines all
       ∙ ap (λ text. with_statements language wants more (statements_of comments (open_behind false (tokens comments false text)) (number + 1) lines)) whole.before
-      ∙ ap (λ b. with_statements language wants more (statements_of comments b (number + 1) lines)) (line_closed comments line words is)
+      ∙ ap (λ b. with_statements language wants more (statements_of comments b (number + 1) lines)) (line_closed comments line words note is)
 
   -- the lines of instructions
   items_added : (end : List ℕ) (number : ℕ) (draft : Draft) (printed : List Printed) → IsLineEnd end → AllByRecursion (IsPrinted language.reads comments) printed
-      → length draft.items + length printed ≤ wants.limit
-      → with_statements language wants draft (statements_of comments false number (whole_lines (item_lines end printed))) ≡ Ok (drafted language.isa number draft printed)
-  unfolding item_lines drafted whole_lines
-  items_added end number draft [] ends are room = no_lines_read language wants comments false number draft
-  items_added end number draft (first ∷ more) ends are room =
+      → AllByRecursion (IsNoted language.isa) printed → length draft.items + length printed ≤ wants.limit
+      → ReadsAs (with_statements language wants draft (statements_of comments false number (whole_lines (item_lines end printed)))) (map unmarked draft.items ++ map unmarked (printed_items printed))
+  unfolding item_lines whole_lines
+  items_added end number draft [] ends are noted room = record {
+    new = draft;
+    is = no_lines_read language wants comments false number draft;
+    same = sym (append-nil (map unmarked draft.items));
+  }
+  items_added end number draft (first ∷ more) ends are noted room =
       let i = record first.item { line = number } in
-      let next = longer (has_access (language.isa.info first.item.form)) number draft first.item in
+      let accesses = has_access (language.isa.info first.item.form) in
+      let remark = noted.0.remark number in
+      let next : Draft = with_remark (longer accesses number draft first.item) remark in
       let whole = body_whole language.reads comments first end are.0 ends in
       let spelled = are.0.spelled in
       let lines = whole_lines (item_lines end more) in
       let is = item_tokens language.reads comments first.text first.note first.item spelled in
-      let fits : length draft.items < wants.limit = omega arith in
-      let fit : length (draft.items ++ i ∷ []) + length more ≤ wants.limit = omega (arith, length-append draft.items (i ∷ [])) in
-      ap (λ text. with_statements language wants draft (statements_of comments false number (whole_lines (text ++ item_lines end more)))) (line_text first end)
-      ∙ ap (λ ls. with_statements language wants draft (statements_of comments false number ls)) (whole.first (item_lines end more))
-      ∙ line_added number draft next (body_of first) end lines spelled.words whole is
-      (statement_added number draft (spelled.words ++ line_comment is.place is.rest ∷ []) spelled.words first.item (line_words comments (body_of first) spelled.words is) spelled.read fits)
-      ∙ items_added end (number + 1) next more ends are.1 fit
+      let all : map unmarked next.items ≡ map unmarked draft.items ++ unmarked first.item ∷ [] = marked-last (marked draft.tags remark) draft.items i refl in
+      let one : length (map unmarked draft.items ++ unmarked first.item ∷ []) ≡ length draft.items + 1 = length-append (map unmarked draft.items) (unmarked first.item ∷ []) ∙ ap (λ n. n + 1) (length-map draft.items unmarked) in
+      let count : length next.items ≡ length draft.items + 1 = sym (length-map next.items unmarked) ∙ ap length all ∙ one in
+      let room_here : length draft.items < wants.limit = omega arith in
+      let fit : length next.items + length more ≤ wants.limit = omega (arith, count) in
+      let rest = items_added end (number + 1) next more ends are.1 noted.1 fit in
+      record {
+        new = rest.new;
+        is =
+            ap (λ text. with_statements language wants draft (statements_of comments false number (whole_lines (text ++ item_lines end more)))) (line_text first end)
+            ∙ ap (λ ls. with_statements language wants draft (statements_of comments false number ls)) (whole.first (item_lines end more))
+            ∙ line_added number draft next (body_of first) end lines spelled.words first.note whole is
+            (statement_added number draft (spelled.words ++ line_comment is.place (codes " @slothy:" ++ first.note) ∷ []) spelled.words first.item remark
+            (line_words comments (body_of first) spelled.words first.note is) spelled.read
+            (note_behind number spelled.words is.place first.note (of_item remark) (noted.0.said number)) (noted.0.allowed number) room_here)
+            ∙ rest.is;
+        same = rest.same ∙ ap (λ l. l ++ map unmarked (printed_items more)) all ∙ append_assoc (map unmarked draft.items) (unmarked first.item ∷ []) (map unmarked (printed_items more));
+      }
     where
       line_text : (printed : Printed) (end : List ℕ) → item_line end printed ≡ body_of printed ++ end
       line_text printed end = ap (λ v. codes "        " ++ v) (sym (append_assoc printed.text (codes " // @slothy:" ++ printed.note) end))
 
   -- the whole region
-  pub region_added : (note end : List ℕ) (printed : List Printed) → list_all is_inside_line note ≡ true → IsLineEnd end → AllByRecursion (IsPrinted language.reads comments) printed
-      → length printed ≤ wants.limit → region_alone language wants (region_lines note end printed) ≡ Ok (drafted language.isa 2 no_draft printed)
-  region_added note end printed inside ends are room =
+  pub region_added : (note end : List ℕ) (mask : ℕ) (printed : List Printed) → list_all is_inside_line note ≡ true → note_said 1 (codes "region" ++ note) ≡ Some (of_region mask) → IsLineEnd end
+      → AllByRecursion (IsPrinted language.reads comments) printed → AllByRecursion (IsNoted language.isa) printed
+      → length printed ≤ wants.limit → ReadsAs (region_alone language wants (region_lines note end printed)) (map unmarked (printed_items printed))
+  region_added note end mask printed inside says ends are noted room =
       let whole = head_whole note end inside ends in
       let is = head_tokens comments note in
+      let headed : Draft = with_said no_draft (Some (of_region mask)) in
       let fit : 0 + length printed ≤ wants.limit = omega arith in
-      ap (λ ls. with_statements language wants no_draft (statements_of comments false 1 ls)) (whole.first (item_lines end printed))
-      ∙ line_added 1 no_draft no_draft (head_of note) end (whole_lines (item_lines end printed)) [] whole is
-      (empty_added 1 no_draft (line_comment is.place is.rest ∷ []) (line_words comments (head_of note) [] is))
-      ∙ items_added end 2 no_draft printed ends are fit
+      let rest = items_added end 2 headed printed ends are noted fit in
+      record {
+        new = rest.new;
+        is =
+            ap (λ ls. with_statements language wants no_draft (statements_of comments false 1 ls)) (whole.first (item_lines end printed))
+            ∙ line_added 1 no_draft headed (head_of note) end (whole_lines (item_lines end printed)) [] (codes "region" ++ note) whole is
+            (head_added 1 no_draft (line_comment is.place (codes " @slothy:region" ++ note) ∷ []) mask (line_words comments (head_of note) [] (codes "region" ++ note) is)
+            (note_behind 1 [] is.place (codes "region" ++ note) (of_region mask) says))
+            ∙ rest.is;
+        same = rest.same;
+      }

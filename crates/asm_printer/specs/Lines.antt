@@ -1,6 +1,6 @@
 -- A printed region, line by line. Source: this project's own format; what it says of itself stands
 -- in comments, which an assembler passes over.
-use Rattle.std.specs.Prelude.{ℕ, ◌+◌, ◌==◌, ◌≡◌, ◌⊎◌, Bool, true, false, not, List, [], ◌∷◌, ◌++◌, map, codes, if◌then◌else◌}
+use Rattle.std.specs.Prelude.{ℕ, ◌==◌, ◌≡◌, ◌⊎◌, Bool, true, false, not, List, [], ◌∷◌, ◌++◌, map, codes, if◌then◌else◌}
 use Rattle.std.specs.List.{list_all}
 use Rattle.sl_model.specs.declared.instruction.Instr.{Instr}
 use Rattle.sl_model.specs.declared.text.Comments.{Comments}
@@ -49,8 +49,3 @@ pub record IsPrinted (reads : Reads) (comments : Comments) (printed : Printed) :
   pub note : list_all is_inside_line printed.note ≡ true
   pub spelled : IsSpelledAt reads comments printed.text 8
       (codes " // @slothy:" ++ printed.note) printed.item
-
--- instructions as they stand on lines that are numbered from a first one
-unfoldable pub on_lines : ℕ → List Instr → List Instr
-on_lines number [] = []
-on_lines number (i ∷ items) = record i { line = number } ∷ on_lines (number + 1) items

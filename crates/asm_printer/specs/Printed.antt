@@ -1,5 +1,6 @@
 -- The written file: a region in which other instructions stand.
-use Rattle.std.specs.Prelude.{ℕ, Bool, true, false, ◌==◌, ◌&&◌, List, [], ◌∷◌, ◌++◌, reverse, slice_get, codes, Option, None, Some, option_and_then, if◌then◌else◌}
+use Rattle.std.specs.Prelude.{ℕ, Bool, true, false, ◌==◌, ◌&&◌, ◌^◌, nat_lt, is_some, List, [], ◌∷◌, ◌++◌, reverse, slice_get, codes, Option, None, Some, option_and_then, if◌then◌else◌}
+use Rattle.std.specs.List.{list_all}
 use Rattle.std.specs.Fmt.{decimal}
 use Rattle.sl_model.specs.declared.instruction.Instr.{Instr}
 use Rattle.sl_isa.specs.Language.{unmarked}
@@ -69,6 +70,25 @@ item_note tags note i =
 abbrev pub entry : (Instr → List ℕ) → List (List ℕ) → Instr → NoteValue → Printed
 entry printed tags i note =
     record { text = printed i; note = item_note tags note i; item = unmarked i }
+
+-- Does a number fit in 64 bits, where there is one?
+abbrev pub fits : Option ℕ → Bool
+fits None = false
+fits (Some n) = nat_lt n (2 ^ 64)
+
+-- Has a note an item, a unit and a cycle, and does each of its numbers fit in 64 bits?
+abbrev pub is_whole : NoteValue → Bool
+is_whole note =
+    fits note.item && (is_some note.unit && (fits note.cycle && nat_lt note.line (2 ^ 64)))
+
+-- Does each number of a first line fit in 64 bits?
+abbrev pub is_whole_head : Head → Bool
+is_whole_head head =
+    nat_lt head.items (2 ^ 64) && (nat_lt head.cycles (2 ^ 64) && nat_lt head.stalls (2 ^ 64))
+
+-- Are the first line and each note of a plan such ones?
+abbrev pub is_whole_plan : PlanValue → Bool
+is_whole_plan plan = is_whole_head plan.head && list_all is_whole plan.notes
 
 -- the lines of instructions with their notes
 unfoldable pub entries : (Instr → List ℕ) → List (List ℕ) → List Instr → List NoteValue

@@ -1,6 +1,7 @@
 -- Where each output is final in its own register, a legal schedule of a straight list keeps each item as it is.
 use Rattle.std.proofs.Common.{◌≡◌, ℕ, zero, suc, ◌<◌, true, false, eqb, List, [], ◌∷◌, length, map, take, reverse, slice_get, filter_map, Option, Some, option_map, if◌then◌else◌, refl, sym, ap, ◌∙◌, subst, arith, eqb-true}
-use Rattle.std.specs.List.{cons_option}
+use Rattle.std.specs.List.{cons_option, list_all}
+use Rattle.std.proofs.lemmas.Bool.{and_parts, and_from}
 use Rattle.std.proofs.lemmas.List.{get_or-take, length-take}
 use Rattle.std.proofs.lemmas.Option.{slice_get-map}
 use Rattle.sl_model.specs.declared.register.Reg.{Reg}
@@ -20,7 +21,7 @@ use Rattle.sl_isa.specs.Language.{Reads}
 use Rattle.legal_space.specs.Listing.{IsListable}
 use Rattle.legal_space.proofs.ForCallers.{known-item, forced-registers, forced-choice}
 use Rattle.renamer.proofs.ForCallers.{IsSoundGraph, suits_operands, Makes, makes-last, straight-sound}
-use Rattle.asm_reader.specs.Regions.{WasRead, AreRead}
+use Rattle.asm_reader.specs.Regions.{WasRead, AreRead, is_marked_right}
 
 -- Each choice has taken the registers of its item's outputs.
 abbrev pub AreOwn : List Instr → List Choice → Type 0
@@ -69,6 +70,13 @@ pub read-at : (reads : Reads) (items : List Instr) (p : ℕ) → AreRead reads i
 read-at reads [] p read within = absurd (omega arith)
 read-at reads (i ∷ items) zero read within = read.0
 read-at reads (i ∷ items) (suc p) read within = read-at reads items p read.1 (omega arith)
+
+-- an item with right marks
+marked-at : (isa : Isa) (count : ℕ) (items : List Instr) (p : ℕ) → list_all (is_marked_right isa count) items ≡ true → p < length items → is_marked_right isa count (item_at items p) ≡ true
+marked-at isa count [] p right within = absurd (omega arith)
+marked-at isa count (i ∷ items) zero right within = (and_parts (is_marked_right isa count i) (list_all (is_marked_right isa count) items) right).0
+marked-at isa count (i ∷ items) (suc p) right within =
+    marked-at isa count items p (and_parts (is_marked_right isa count i) (list_all (is_marked_right isa count) items) right).1 (omega arith)
 
 -- the items of choices, as they are
 abbrev pub items_of : List Instr → List Choice → List Instr
@@ -122,3 +130,17 @@ module _ (isa : Isa) (items : List Instr) (live free : List Reg) (costs : CostTa
   -- The instructions of a legal schedule were read.
   pub applied-read : (reads : Reads) (schedule : List Choice) → AreRead reads items → IsLegalFrom (straight_problem isa items live free costs) [] schedule → AreRead reads (applied (body_of (list_graph isa items)) schedule)
   applied-read reads schedule read legal = subst (AreRead reads) (sym (kept-all schedule legal)) (read-from reads [] schedule read legal)
+
+  -- and their marks are right, where those of the items were
+  marked-from : (count : ℕ) (done choices : List Choice) → list_all (is_marked_right isa count) items ≡ true → IsLegalFrom (straight_problem isa items live free costs) done choices
+      → list_all (is_marked_right isa count) (items_of items choices) ≡ true
+  marked-from count done [] right legal = refl
+  marked-from count done (c ∷ choices) right legal =
+      and_from (is_marked_right isa count (item_at items c.item)) (list_all (is_marked_right isa count) (items_of items choices))
+      (marked-at isa count items c.item right (known-item (straight_problem isa items live free costs) listable c.item legal.0.of.known))
+      (marked-from count (c ∷ done) choices right legal.1)
+
+  pub applied-marked : (count : ℕ) (schedule : List Choice) → list_all (is_marked_right isa count) items ≡ true → IsLegalFrom (straight_problem isa items live free costs) [] schedule
+      → list_all (is_marked_right isa count) (applied (body_of (list_graph isa items)) schedule) ≡ true
+  applied-marked count schedule right legal =
+      subst (λ (l : List Instr). list_all (is_marked_right isa count) l ≡ true) (sym (kept-all schedule legal)) (marked-from count [] schedule right legal)

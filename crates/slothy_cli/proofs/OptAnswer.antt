@@ -14,11 +14,11 @@ use Rattle.sl_isa.specs.declared.arch.CounterOp.TheVariants.{Sub, Subs}
 use Rattle.sl_isa.specs.Language.{Language, IsLanguage}
 use Rattle.legal_space.specs.Listing.{IsListable}
 use Rattle.asm_reader.specs.Reading.{Region}
-use Rattle.asm_printer.specs.Printed.{line_end}
-use Rattle.asm_printer.proofs.ForCallers.{region-reads, leaves-on_lines, is-line_end}
+use Rattle.asm_printer.specs.Printed.{line_end, is_whole_plan}
+use Rattle.asm_printer.proofs.ForCallers.{region-reads, leaves-unmarked, is-line_end}
 use Rattle.renamer.proofs.ForCallers.{straight-leaves}
 use Rattle.slothy_cli.specs.Plan.{plan_of, schedule_file}
-use Rattle.slothy_cli.proofs.Kept.{applied-read}
+use Rattle.slothy_cli.proofs.Kept.{applied-read, applied-marked}
 use Rattle.slothy_cli.proofs.Listable.{straight-listable, read-concrete}
 use Rattle.slothy_cli.proofs.Plans.{length-applied, plan-units, plan-length}
 use Rattle.slothy_cli.specs.declared.stop.Stop.{Stop}
@@ -44,36 +44,36 @@ opt-listable language latency region lawful right =
 -- The written file of the best schedule is the text.
 opt-text : (language : Language) (latency : ℕ) (region : Region) (schedule : List Choice) (text : List ℕ) → IsLanguage language
     → IsRegion language (wants_of (opt latency)) region → IsBest (region_problem language.isa latency region.items) STALLS schedule
-    → text ≡ schedule_file language region (region_problem language.isa latency region.items) schedule → OptText language latency region text
-opt-text language latency region schedule text lawful right best is =
+    → is_whole_plan (plan_of (region_problem language.isa latency region.items) schedule) ≡ true → text ≡ schedule_file language region (region_problem language.isa latency region.items) schedule → OptText language latency region text
+opt-text language latency region schedule text lawful right best whole is =
     let items : List Instr = region.items in
     let costs = plain_costs latency (length items) in
     let decrement : Bool → Reg → Instr = λ flagged c. language.step_of (if flagged then Subs else Sub 1) c 0 in
     let few : length schedule ≤ LISTED = omega (arith, legal-length language.isa latency items schedule best.member.legal, right.few) in
     let problem : Problem = region_problem language.isa latency items in
     let read = applied-read language.isa items (written items) [] costs right.valid (opt-listable language latency region lawful right) language.reads schedule right.read best.member.legal.legal in
+    let marks = applied-marked language.isa items (written items) [] costs right.valid (opt-listable language latency region lawful right) (length region.tags) schedule right.marks best.member.legal.legal in
     let again =
     region-reads language wants_again region.tags (applied (body_of problem.graph) schedule) (plan_of problem schedule) (line_end region.parts.before) lawful refl refl
-    (omega (arith, length-applied (body_of problem.graph) [] schedule)) read right.names (plan-units problem schedule) (plan-length problem schedule) (is-line_end region.parts.before) in
+    (omega (arith, length-applied (body_of problem.graph) [] schedule)) read right.names marks (plan-units problem schedule) whole (plan-length problem schedule) (is-line_end region.parts.before) in
     record {
       schedule = schedule;
       best = best;
       text_is = is;
-      new = again.0;
-      reads = again.1.0;
+      new = again.new;
+      reads = again.is;
       same = λ s tags.
-          subst (λ (new : List Instr). Leaves language.isa decrement (written items) [] (Straight items) (Straight new) s) (sym again.1.1)
-          (leaves-on_lines language.isa decrement (written items) [] (Straight items) 2 (applied (body_of problem.graph) schedule) s
-          (straight-leaves language.isa items (written items) [] costs schedule s decrement lawful.set right.valid best.member.legal tags));
+          leaves-unmarked language.isa decrement (written items) [] (Straight items) (applied (body_of problem.graph) schedule) again.new.items s again.same
+          (straight-leaves language.isa items (written items) [] costs schedule s decrement lawful.set right.valid best.member.legal tags);
     }
 
 -- Where the text is the written file of the best schedule, it is what `opt` answers.
 pub written-answers : (language : Language) (latency : ℕ) (region : Region) (schedule : List Choice) (answer : Result (List ℕ) Stop) → IsLanguage language
     → IsRegion language (wants_of (opt latency)) region → IsBest (region_problem language.isa latency region.items) STALLS schedule
-    → answer ≡ Ok (schedule_file language region (region_problem language.isa latency region.items) schedule) → OptAnswers language latency region answer
-written-answers language latency region schedule answer lawful right best is =
+    → is_whole_plan (plan_of (region_problem language.isa latency region.items) schedule) ≡ true → answer ≡ Ok (schedule_file language region (region_problem language.isa latency region.items) schedule) → OptAnswers language latency region answer
+written-answers language latency region schedule answer lawful right best whole is =
     subst (OptAnswers language latency region) (sym is)
-    (opt-text language latency region schedule (schedule_file language region (region_problem language.isa latency region.items) schedule) lawful right best refl)
+    (opt-text language latency region schedule (schedule_file language region (region_problem language.isa latency region.items) schedule) lawful right best whole refl)
 
 -- The schedule that the search found, as it is handed on, with the problem that it is of.
 pub record Found (isa : Isa) (latency : ℕ) (items : List Instr) (problem : Problem) (schedule : List Choice) : Type 0 where

@@ -1,5 +1,5 @@
 -- What a command answers to the bytes of its files: a text, or the reason why there is none.
-use Rattle.std.specs.Prelude.{ℕ, ◌≡◌, nat_lt, List, [], length, MatchResult, codes, Option, None, Some, Result, Ok, Err, false, if◌then◌else◌}
+use Rattle.std.specs.Prelude.{ℕ, ◌≡◌, nat_lt, List, [], length, MatchResult, codes, Option, None, Some, Result, Ok, Err, true, false, if◌then◌else◌}
 use Rattle.sl_model.specs.declared.instruction.Instr.{Instr}
 use Rattle.sl_model.specs.declared.schedule.Choice.{Choice}
 use Rattle.sl_model.specs.declared.text.CutRefusal.TheVariants as cuts
@@ -73,9 +73,9 @@ file_region language wants bytes = do
   text ← text_from files.Input whole
   region_from language wants text
 
--- what is asked of the written region, which is read by itself: its notes are passed over
+-- what is asked of the written region, which is read by itself
 abbrev pub wants_again : Wants
-wants_again = record { limit = LISTED; once = false; notes = false }
+wants_again = record { limit = LISTED; once = false; notes = true }
 
 -- The text of `opt`: the written file of the best schedule; and its region, read by itself, leaves
 -- what the old one leaves, from every state.

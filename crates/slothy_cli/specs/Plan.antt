@@ -14,13 +14,13 @@ use Rattle.asm_reader.specs.Reading.{Region}
 use Rattle.asm_printer.specs.Printed.{PlanValue, line_end, region_text, written_text}
 
 -- what is told of an instruction: its old index, the one unit, its cycle and its old line
-abbrev pub note_of : Instr → Choice → ℕ → NoteValue
-note_of i c cycle = record {
-  item = Some c.item;
+abbrev pub note_of : ℕ → ℕ → ℕ → NoteValue
+note_of item cycle line = record {
+  item = Some item;
   unit = Some (codes "u");
   cycle = Some cycle;
   part = Plain;
-  line = i.line;
+  line = line;
 }
 
 -- the same of instructions, with the choices that they come from and their cycles
@@ -29,7 +29,7 @@ notes_of [] choices cycles = []
 notes_of (i ∷ items) [] cycles = []
 notes_of (i ∷ items) (c ∷ choices) [] = []
 notes_of (i ∷ items) (c ∷ choices) (cycle ∷ cycles) =
-    note_of i c cycle ∷ notes_of items choices cycles
+    note_of c.item cycle i.line ∷ notes_of items choices cycles
 
 -- the plan of instructions, with their choices and cycles, of how many cycles they take, and of
 -- the stalls among these

@@ -8,6 +8,8 @@ ghost use Rattle.renamer.specs.WellPosed.{IsGraphOf};
 ghost use Rattle.sl_model.specs.declared.limits.TheConstants.{LISTED};
 ghost use Rattle.asm_reader.specs.Regions.{IsRegion};
 ghost use Rattle.asm_reader.specs.RegionViews.{region_of};
+ghost use Rattle.asm_printer.specs.Printed.{is_whole_plan};
+ghost use Rattle.slothy_cli.specs.Plan as plans;
 ghost use Rattle.slothy_cli.specs.Plan.{schedule_file};
 ghost use Rattle.slothy_cli.specs.Command.{opt, wants_of};
 ghost use Rattle.slothy_cli.specs.Outcome.{OptAnswers};
@@ -41,8 +43,9 @@ fn written_file<A: Arch>(
     requires graph { IsGraphOf A.language.isa problem.now.graph }
     requires legal { IsFullLegal problem.now schedule.now }
     ensures { Settles stop_told (λ text. text.items) result
-        (λ answer. answer
-        ≡ Ok (schedule_file A.language (region_of region.now) problem.now schedule.now)) }
+        (λ answer. (answer
+        ≡ Ok (schedule_file A.language (region_of region.now) problem.now schedule.now))
+        × IsTrue (is_whole_plan (plans.plan_of problem.now schedule.now))) }
 {
     let items = apply(alloc, problem, problem.items(), schedule)?;
     let times = times_of(alloc, problem, schedule)?;

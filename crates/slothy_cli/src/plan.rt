@@ -1,8 +1,10 @@
 //! What the written region of a schedule says of itself.
-ghost use Rattle.std.specs.Prelude.{◌≡◌, ◌++◌, ◌≤◌, [], length, map, IfOk, OnOk};
+ghost use Rattle.std.specs.Prelude.{◌≡◌, ◌++◌, ◌≤◌, [], length, map, IfOk, OnOk, IsTrue};
+ghost use Rattle.std.specs.List.{list_all};
 ghost use Rattle.sl_model.specs.declared.limits.TheConstants.{LISTED};
 ghost use Rattle.asm_reader.specs.NoteViews.{note_value};
 ghost use Rattle.asm_printer.specs.PlanViews.{plan_value};
+ghost use Rattle.asm_printer.specs.Printed.{is_whole, is_whole_head, is_whole_plan};
 ghost use Rattle.slothy_cli.specs.Plan as spec;
 
 use asm_printer::{Head, Plan};
@@ -12,16 +14,30 @@ use legal_space::{Choice, Times};
 use sl_model::instruction::Instr;
 use std::alloc::{AllocError, Global};
 
-// What is told of an instruction with its choice and its cycle.
-fn note_of(item: &Instr, choice: &Choice, cycle: u32) -> Note
-    ensures { note_value result ≡ spec.note_of item.now choice.now cycle }
+// What is told of an instruction: its old index, its cycle and its old line.
+fn note_of(item: u16, cycle: u32, line: u32) -> Note
+    ensures told { note_value result ≡ spec.note_of item cycle line }
+    ensures whole { IsTrue (is_whole (spec.note_of item cycle line)) }
 {
     Note {
-        item: Some(choice.item),
+        item: Some(item),
         unit: Some(UnitName::new("u")),
         cycle: Some(cycle),
         part: Part::Plain,
-        line: item.line,
+        line,
+    }
+}
+
+// The first line of a plan.
+fn head_of(items: u16, cycles: u32, stalls: u32) -> Head
+    ensures told { result ≡ record { items = items; cycles = cycles; stalls = stalls } }
+    ensures whole { IsTrue
+        (is_whole_head (record { items = items; cycles = cycles; stalls = stalls })) }
+{
+    Head {
+        items,
+        cycles,
+        stalls,
     }
 }
 
@@ -33,8 +49,10 @@ fn push_notes(
     schedule: &[Choice],
     cycles: &[u32],
 ) -> Result<(), NoMemory>
-    ensures { OnOk result (map note_value notes.new.items
+    ensures told { OnOk result (map note_value notes.new.items
         ≡ map note_value notes.old.items ++ spec.notes_of items.now schedule.now cycles.now) }
+    ensures whole { OnOk result (IsTrue
+        (list_all is_whole (spec.notes_of items.now schedule.now cycles.now))) }
 {
     let Some((item, items)) = items.split_first() else {
         return Ok(());
@@ -46,7 +64,7 @@ fn push_notes(
         return Ok(());
     };
     notes
-        .push(note_of(item, choice, *cycle))
+        .push(note_of(choice.item, *cycle, item.line))
         .map_err(AllocError::from)?;
     push_notes(notes, items, schedule, cycles)
 }
@@ -59,18 +77,17 @@ pub(crate) fn plan_of(
     times: &Times,
 ) -> Result<Plan, NoMemory>
     requires { length schedule.now ≤ LISTED }
-    ensures { IfOk result (λ plan. plan_value plan
+    ensures told { IfOk result (λ plan. plan_value plan
         ≡ spec.plan_from items.now schedule.now times.now.cycles.items times.now.count
         times.now.stalls) }
+    ensures whole { OnOk result (IsTrue (is_whole_plan
+        (spec.plan_from items.now schedule.now times.now.cycles.items times.now.count
+        times.now.stalls))) }
 {
     let mut notes = Vec::new(alloc);
     push_notes(&mut notes, items, schedule, &times.cycles)?;
     Ok(Plan {
-        head: Head {
-            items: schedule.len() as u16,
-            cycles: times.count,
-            stalls: times.stalls,
-        },
+        head: head_of(schedule.len() as u16, times.count, times.stalls),
         notes: Notes::new(notes),
     })
 }

@@ -1,4 +1,4 @@
-use Rattle.std.proofs.Common.{◌≡◌, ◌≤◌, List, length, Ok, refl, sym, ap, ◌∙◌, subst, arith}
+use Rattle.std.proofs.Common.{◌≡◌, ◌≤◌, true, List, length, Ok, refl, sym, ap, ◌∙◌, subst, arith}
 use Rattle.sl_model.specs.declared.instruction.Instr.{Instr}
 use Rattle.sl_model.specs.Lawful.{AreValid}
 use Rattle.sl_model.specs.Legal.{Problem}
@@ -7,7 +7,8 @@ use Rattle.sl_isa.specs.Language.{Language}
 use Rattle.legal_space.specs.Listing.{IsListable}
 use Rattle.renamer.specs.WellPosed.{IsGraphOf}
 use Rattle.renamer.proofs.ForCallers.{straight-sound}
-use Rattle.slothy_cli.specs.Plan.{schedule_file}
+use Rattle.asm_printer.specs.Printed.{is_whole_plan}
+use Rattle.slothy_cli.specs.Plan.{plan_of, schedule_file}
 use Rattle.slothy_cli.specs.CostText.{region_problem}
 use Rattle.slothy_cli.specs.Outcome.{OptAnswers}
 use Rattle.asm_reader.specs.RegionViews.{region_of}
@@ -80,5 +81,6 @@ returns g c =
     best-found (λ v. v.items) g.A.Arch.language.isa c.args.latency items c.deref.result.now c.in_ok-problem.problem _ c.in-Some.schedule _ c.deref.ensures.value c.in_ok-problem.ensures c.in-Some.is c.deref-2.ensures.value c.in_ok-schedule.ensures in
     settles-weaken (λ text. text.items) c.written_file.result _ (OptAnswers language c.args.latency (region_of c.args.region.now))
     (λ answer told. written-answers language c.args.latency (region_of c.args.region.now) c.deref-2.result.now answer g.met.A.Arch.lawful c.requires.right found.best
-    (told ∙ ap (λ p. Ok (schedule_file language (region_of c.args.region.now) p c.deref-2.result.now)) found.is))
+    (subst (λ p. is_whole_plan (plan_of p c.deref-2.result.now) ≡ true) found.is told.1)
+    (told.0 ∙ ap (λ p. Ok (schedule_file language (region_of c.args.region.now) p c.deref-2.result.now)) found.is))
     c.written_file.ensures

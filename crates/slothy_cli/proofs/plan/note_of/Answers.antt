@@ -1,0 +1,8 @@
+use Rattle.std.proofs.Common.{◌&&◌, ◌^◌, nat_lt, lt-ltb, arith}
+use Rattle.std.proofs.lemmas.Bool.{and_from}
+use Rattle.slothy_cli.proofs.plan.note_of.Goals as goal
+
+pub returns-clause-whole : goal.returns-clause-whole
+returns-clause-whole c =
+    and_from (nat_lt c.args.item (2 ^ 64)) (nat_lt c.args.cycle (2 ^ 64) && nat_lt c.args.line (2 ^ 64)) (lt-ltb c.args.item (2 ^ 64) (omega (arith, c.ranges.item.fits)))
+    (and_from (nat_lt c.args.cycle (2 ^ 64)) (nat_lt c.args.line (2 ^ 64)) (lt-ltb c.args.cycle (2 ^ 64) (omega (arith, c.ranges.cycle.fits))) (lt-ltb c.args.line (2 ^ 64) (omega (arith, c.ranges.line.fits))))
