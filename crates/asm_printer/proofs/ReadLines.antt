@@ -18,7 +18,7 @@ use Rattle.asm_reader.specs.declared.reasons.Refusal.{Refusal}
 use Rattle.std.specs.Str.{str_eq_ignore_ascii_case}
 use Rattle.std.proofs.lemmas.List.{length-map}
 use Rattle.asm_printer.proofs.NoteWords.{IsSaid}
-use Rattle.asm_reader.specs.Statements.{Statement, words_of, note_in, note_text, on_line, outside, statements_of}
+use Rattle.asm_reader.specs.Statements.{Statement, words_of, note_in, on_line, outside, statements_of}
 use Rattle.asm_reader.specs.Reading.{Draft, refused, no_draft, writes_again, longer, with_item, with_last, marked, with_remark, may_say, right_note, instr_or, instr_of, said_by, said_of, with_said, with_statement, with_statements, region_alone}
 use Rattle.asm_printer.specs.Lines.{Printed, IsPrinted, IsLineEnd, item_line, item_lines, region_lines, printed_items, is_inside_line}
 use Rattle.asm_reader.proofs.ForCallers.{no_statements, statement_read, parts_read, no_lines_read, line_read}
@@ -155,17 +155,16 @@ pub record ReadsAs (read : Result Draft Refusal) (items : List Instr) : Type 0 w
 abbrev pub IsNoted : Isa → Printed → Type 0
 IsNoted isa printed = IsSaid (has_access (isa.info printed.item.form)) printed.note
 
-module _ (language : Language) (wants : Wants) (some : (i : Instr) → language.reads [] ≡ Ok i → ⊥) (often : wants.notes ≡ true) (once : wants.once ≡ false) where
+module _ (language : Language) (wants : Wants) (some : (i : Instr) → language.reads [] ≡ Ok i → ⊥) (once : wants.once ≡ false) where
   abbrev pub comments : Comments
   comments = comments_of language.isa.name
 
   -- the note behind a line's words
   note_behind : (line : ℕ) (words : List Lexeme) (place : ℕ) (note : List ℕ) (said : Said) → note_said line note ≡ Some said
-      → said_of wants (record { line = line; tokens = words ++ line_comment place (codes " @slothy:" ++ note) ∷ [] }) ≡ Ok (Some said)
+      → said_of (record { line = line; tokens = words ++ line_comment place (codes " @slothy:" ++ note) ∷ [] }) ≡ Ok (Some said)
   note_behind line words place note said is =
       let tokens : List Lexeme = words ++ line_comment place (codes " @slothy:" ++ note) ∷ [] in
-      ap (λ b. cond b (said_by line (note_text tokens)) (Ok None)) often
-      ∙ ap (said_by line) (ap note_in (last_token words (line_comment place (codes " @slothy:" ++ note))) ∙ note_there place note)
+      ap (said_by line) (ap note_in (last_token words (line_comment place (codes " @slothy:" ++ note))) ∙ note_there place note)
       ∙ ap (right_note line) is
 
   -- an instruction for which there is room
@@ -181,7 +180,7 @@ module _ (language : Language) (wants : Wants) (some : (i : Instr) → language.
 
   -- a statement of an instruction, with its note
   statement_added : (line : ℕ) (draft : Draft) (tokens words : List Lexeme) (i : Instr) (remark : Remark) → words_of tokens ≡ words → language.reads words ≡ Ok i
-      → said_of wants (record { line = line; tokens = tokens }) ≡ Ok (Some (of_item remark)) → may_say (has_access (language.isa.info i.form)) (Some (of_item remark)) ≡ true
+      → said_of (record { line = line; tokens = tokens }) ≡ Ok (Some (of_item remark)) → may_say (has_access (language.isa.info i.form)) (Some (of_item remark)) ≡ true
       → length draft.items < wants.limit
       → with_statement language wants draft (record { line = line; tokens = tokens }) ≡ Ok (with_remark (longer (has_access (language.isa.info i.form)) line draft i) remark)
   statement_added line draft tokens words i remark are read said may room =
@@ -192,7 +191,7 @@ module _ (language : Language) (wants : Wants) (some : (i : Instr) → language.
       ∙ ap (λ r. r >>= λ more. Ok (with_said more (Some (of_item remark)))) (item_added accesses line draft i room)
 
   -- and one without words, of which the note is of the region
-  head_added : (line : ℕ) (draft : Draft) (tokens : List Lexeme) (mask : ℕ) → words_of tokens ≡ [] → said_of wants (record { line = line; tokens = tokens }) ≡ Ok (Some (of_region mask))
+  head_added : (line : ℕ) (draft : Draft) (tokens : List Lexeme) (mask : ℕ) → words_of tokens ≡ [] → said_of (record { line = line; tokens = tokens }) ≡ Ok (Some (of_region mask))
       → with_statement language wants draft (record { line = line; tokens = tokens }) ≡ Ok (with_said draft (Some (of_region mask)))
   head_added line draft tokens mask are said =
       parts_read language wants draft (record { line = line; tokens = tokens }) None (Some (of_region mask)) (ap (instr_of language.reads line) are) said

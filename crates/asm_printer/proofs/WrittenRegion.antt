@@ -93,18 +93,18 @@ all-said language tags (i ∷ items) (note ∷ notes) names marks units whole =
 
 -- A printed region whose instructions were read is read by itself, with its notes, as these, their lines, tags and marks aside.
 pub region-reads : (language : Language) (wants : Wants) (tags : List (List ℕ)) (items : List Instr) (plan : PlanValue) (end : List ℕ)
-    → IsLanguage language → wants.notes ≡ true → wants.once ≡ false → length items ≤ wants.limit → AreRead language.reads items → list_all is_tag tags ≡ true
+    → IsLanguage language → wants.once ≡ false → length items ≤ wants.limit → AreRead language.reads items → list_all is_tag tags ≡ true
     → list_all (is_marked_right language.isa (length tags)) items ≡ true → list_all (λ (note : NoteValue). is_right_unit note.unit) plan.notes ≡ true
     → is_whole_plan plan ≡ true → length plan.notes ≡ length items → IsLineEnd end
     → ReadsAs (region_alone language wants (region_text language.printed tags items plan end)) (map unmarked items)
 unfolding region_text
-region-reads language wants tags items plan end lawful often once few read names marks units whole each ends =
+region-reads language wants tags items plan end lawful once few read names marks units whole each ends =
     let lines : List reading.Printed = entries language.printed tags items plan.notes in
     let fit : length lines ≤ wants.limit = omega (arith, length-entries language.printed tags items plan.notes each) in
     let parts = and_parts (is_whole_head plan.head) (list_all is_whole plan.notes) whole in
     let head = head-said plan.head parts.0 in
     let added =
-    region_added language wants lawful.nothing often once (head_note plan.head) end head.0 lines (head-inside plan.head) head.1 ends
+    region_added language wants lawful.nothing once (head_note plan.head) end head.0 lines (head-inside plan.head) head.1 ends
     (all-printed language (comments_of language.isa.name) tags items plan.notes lawful read names units)
     (all-said language tags items plan.notes names marks units parts.1) fit in
     record {

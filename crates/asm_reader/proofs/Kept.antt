@@ -110,12 +110,6 @@ right_by line None said e =
     subst IsRightSaid same tt
 right_by line (Some text) said e = right_text line text (note_said line text) said refl e
 
-right_where : (line : ℕ) (text : Option (List ℕ)) (said : Option Said) (b : Bool) → cond b (said_by line text) (Ok None) ≡ Ok said → IsRightSaid said
-right_where line text said true e = right_by line text said e
-right_where line text said false e =
-    let same : None ≡ said = cc in
-    subst IsRightSaid same tt
-
 -- ---- tags
 
 below_true : (a b : ℕ) → a < b → nat_lt a b ≡ true
@@ -384,9 +378,9 @@ module _ (language : Language) (reads_valid : (words : List Lexeme) (i : Instr) 
   kept_statement : (draft more : Draft) (statement : Statement) → IsDraft language wants draft → with_statement language wants draft statement ≡ Ok more → IsDraft language wants more
   unfolding with_statement
   kept_statement draft more statement kept e =
-      let first = chain_read (instr_of language.reads statement.line (words_of statement.tokens)) (λ instr. said_of wants statement >>= λ said. with_parts language.isa wants statement.line draft said instr) more e in
-      let second = chain_read (said_of wants statement) (λ said. with_parts language.isa wants statement.line draft said first.0) more first.1.1 in
-      kept_parts statement.line draft more second.0 (words_of statement.tokens) first.0 first.1.0 (right_where statement.line (note_text statement.tokens) second.0 wants.notes second.1.0) kept second.1.1
+      let first = chain_read (instr_of language.reads statement.line (words_of statement.tokens)) (λ instr. said_of statement >>= λ said. with_parts language.isa wants statement.line draft said instr) more e in
+      let second = chain_read (said_of statement) (λ said. with_parts language.isa wants statement.line draft said first.0) more first.1.1 in
+      kept_parts statement.line draft more second.0 (words_of statement.tokens) first.0 first.1.0 (right_by statement.line (note_text statement.tokens) second.0 second.1.0) kept second.1.1
 
   kept_statements : (draft more : Draft) (statements : List Statement) → IsDraft language wants draft → with_statements language wants draft statements ≡ Ok more → IsDraft language wants more
   unfolding with_statements

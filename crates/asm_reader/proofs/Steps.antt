@@ -122,22 +122,22 @@ module _ (language : Language) (wants : Wants) (draft : Draft) (statement : Stat
   unfolding with_statement
   words_fail failure e =
       refuses_all failure (instr_of language.reads statement.line (words_of statement.tokens))
-      (λ instr. said_of wants statement >>= λ said. with_parts language.isa wants statement.line draft said instr) e
+      (λ instr. said_of statement >>= λ said. with_parts language.isa wants statement.line draft said instr) e
 
   -- its words are read
   pub words_read : (instr : Option Instr) → instr_of language.reads statement.line (words_of statement.tokens) ≡ Ok instr
-      → with_statement language wants draft statement ≡ (said_of wants statement >>= λ said. with_parts language.isa wants statement.line draft said instr)
+      → with_statement language wants draft statement ≡ (said_of statement >>= λ said. with_parts language.isa wants statement.line draft said instr)
   unfolding with_statement
-  words_read instr e = ap (λ r. r >>= λ i. said_of wants statement >>= λ said. with_parts language.isa wants statement.line draft said i) e
+  words_read instr e = ap (λ r. r >>= λ i. said_of statement >>= λ said. with_parts language.isa wants statement.line draft said i) e
 
   -- its note is refused
   pub note_fails : (instr : Option Instr) (failure : ReadRefusal) → instr_of language.reads statement.line (words_of statement.tokens) ≡ Ok instr
-      → Refuses (refusal_of failure) (said_of wants statement) → Refuses (refusal_of failure) (with_statement language wants draft statement)
+      → Refuses (refusal_of failure) (said_of statement) → Refuses (refusal_of failure) (with_statement language wants draft statement)
   note_fails instr failure e refuses =
       subst (Refuses (refusal_of failure)) (sym (words_read instr e))
-      (refuses_all failure (said_of wants statement) (λ said. with_parts language.isa wants statement.line draft said instr) refuses)
+      (refuses_all failure (said_of statement) (λ said. with_parts language.isa wants statement.line draft said instr) refuses)
 
   -- and both are read
-  pub parts_read : (instr : Option Instr) (said : Option Said) → instr_of language.reads statement.line (words_of statement.tokens) ≡ Ok instr → said_of wants statement ≡ Ok said
+  pub parts_read : (instr : Option Instr) (said : Option Said) → instr_of language.reads statement.line (words_of statement.tokens) ≡ Ok instr → said_of statement ≡ Ok said
       → with_statement language wants draft statement ≡ with_parts language.isa wants statement.line draft said instr
   parts_read instr said e f = words_read instr e ∙ ap (λ r. r >>= λ s. with_parts language.isa wants statement.line draft s instr) f

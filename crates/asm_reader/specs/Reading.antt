@@ -167,10 +167,9 @@ abbrev pub said_by : ℕ → Option (List ℕ) → Result (Option Said) Refusal
 said_by line None = Ok None
 said_by line (Some text) = right_note line (note_said line text)
 
--- what the note of a statement says, where notes are read
-abbrev pub said_of : Wants → Statement → Result (Option Said) Refusal
-said_of wants statement =
-    if wants.notes then said_by statement.line (note_text statement.tokens) else Ok None
+-- what the note of a statement says
+abbrev pub said_of : Statement → Result (Option Said) Refusal
+said_of statement = said_by statement.line (note_text statement.tokens)
 
 -- a draft with what a note says that stands without an instruction of its statement
 abbrev pub with_note : ℕ → Draft → Option Said → Result Draft Refusal
@@ -197,7 +196,7 @@ with_parts isa wants line draft said (Some i) =
 unfoldable pub with_statement : Language → Wants → Draft → Statement → Result Draft Refusal
 with_statement language wants draft statement = do
   instr ← instr_of language.reads statement.line (words_of statement.tokens)
-  said ← said_of wants statement
+  said ← said_of statement
   with_parts language.isa wants statement.line draft said instr
 
 -- a draft with some statements, in their order

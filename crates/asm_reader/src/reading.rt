@@ -123,21 +123,15 @@ fn read_instr<A: Arch>(
     }
 }
 
-// What the note of a statement says, if it has one and notes are read.
-fn said_of<'a>(
-    manner: Manner,
-    statement: Statement<'_, 'a>,
-) -> Result<Option<Said<'a>>, ReadRefusal>
+// What the note of a statement says, if it has one.
+fn said_of<'a>(alloc: Global, statement: Statement<'_, 'a>) -> Result<Option<Said<'a>>, ReadRefusal>
     ensures { Gives refusal_of said_value result
-        (spec.said_of manner.wants (statement_value statement.entry)) }
+        (spec.said_of (statement_value statement.entry)) }
 {
-    if !manner.wants.notes {
-        return Ok(None);
-    }
     let Some(text) = note_text(statement.tokens) else {
         return Ok(None);
     };
-    match note_said(manner.alloc, statement.line, text) {
+    match note_said(alloc, statement.line, text) {
         Ok(Some(said)) => Ok(Some(said)),
         Ok(None) => {
             let line = statement.line;
@@ -251,7 +245,7 @@ pub(crate) fn push_statement<'a, A: Arch>(
     let line = statement.line;
     let words = words_of(manner.alloc, statement.tokens)?;
     let instr = read_instr(arch, manner.alloc, line, &words)?;
-    let said = said_of(manner, statement)?;
+    let said = said_of(manner.alloc, statement)?;
     match instr {
         Some(item) => {
             let accesses = accesses(arch, &item);

@@ -13,9 +13,6 @@ pub struct Wants {
     pub limit: u16,
     /// Is each register written at most once?
     pub once: bool,
-    /// Are notes read, which are comments that begin with `// @slothy:`?
-    /// Else they are passed over.
-    pub notes: bool,
 }
 
 /// Why a region isn't read.

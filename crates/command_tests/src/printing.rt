@@ -9,7 +9,6 @@ use std::alloc::{AllocError, Global};
 const WANTS: Wants = Wants {
     limit: 5000,
     once: false,
-    notes: true,
 };
 
 /// The plan of so many items in their own order, with the cycles 0, 2, 4 ..

@@ -6,11 +6,10 @@ use sl_isa::FormReason;
 use sl_text::CutRefusal;
 use std::alloc::{AllocError, Global};
 
-/// At most 64 items, each register once, and notes are read.
+/// At most 64 items, each register once.
 const WANTS: Wants = Wants {
     limit: 64,
     once: true,
-    notes: true,
 };
 
 fn reason_name(reason: FormReason) -> &'static str {
@@ -242,7 +241,6 @@ fn long_regions_are_read(rt: HostRuntime) -> Failing {
     let wants = Wants {
         limit: 5000,
         once: false,
-        notes: true,
     };
     let mut failing = Failing::new(rt.alloc());
     for count in &[0, 1, 31, 32, 33, 48, 49, 64, 65, 192, 257, 4097, 5000] {

@@ -39,12 +39,13 @@ impl Model for Problem {
       looped = a.looped;
     } };
 
-    ghost invariant = { λ a. length a.costs.rows ≡ length a.graph.items };
+    ghost invariant = { λ a. (length a.costs.rows ≡ length a.graph.items)
+        × (length a.allowed.items ≡ length a.graph.items) };
 }
 
 impl Problem {
     /// A problem of the items of a graph: the registers with the value that must stand in them at
-    /// the end, the registers that each item may write, a row for each item of what it costs, and
+    /// the end, a set of the registers that each item may write, a row of what each costs, and
     /// whether the items are the body of a loop. It copies what it keeps.
     pub fn new(
         alloc: Global,
@@ -55,6 +56,7 @@ impl Problem {
         looped: bool,
     ) -> Result<Problem, NoMemory>
         requires rows { length costs.now.rows ≡ length graph.now.items }
+        requires allowed { length allowed.now ≡ length graph.now.items }
         ensures { IfOk result (λ problem. problem ≡ record {
           graph = graph.now;
           finals = finals.now;
@@ -76,11 +78,13 @@ impl Problem {
         })
     }
 
-    /// The number of items, at most 64, for each of which there is a row of what it costs.
+    /// The number of items, at most 64, for each of which there is a row of what it costs, and a set
+    /// of the registers that it may write.
     pub fn len(&self) -> usize
         ensures len { result ≡ length self.now.graph.items }
         ensures few { result ≤ ITEMS }
         ensures rows { length self.now.costs.rows ≡ length self.now.graph.items }
+        ensures allowed { length self.now.allowed ≡ length self.now.graph.items }
     {
         self.graph.len()
     }

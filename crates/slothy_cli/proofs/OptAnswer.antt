@@ -54,7 +54,7 @@ opt-text language latency region schedule text lawful right best whole is =
     let read = applied-read language.isa items (written items) [] costs right.valid (opt-listable language latency region lawful right) language.reads schedule right.read best.member.legal.legal in
     let marks = applied-marked language.isa items (written items) [] costs right.valid (opt-listable language latency region lawful right) (length region.tags) schedule right.marks best.member.legal.legal in
     let again =
-    region-reads language wants_again region.tags (applied (body_of problem.graph) schedule) (plan_of problem schedule) (line_end region.parts.before) lawful refl refl
+    region-reads language wants_again region.tags (applied (body_of problem.graph) schedule) (plan_of problem schedule) (line_end region.parts.before) lawful refl
     (omega (arith, length-applied (body_of problem.graph) [] schedule)) read right.names marks (plan-units problem schedule) whole (plan-length problem schedule) (is-line_end region.parts.before) in
     record {
       schedule = schedule;

@@ -92,9 +92,9 @@ command_of words = None
 -- what is wanted of a region: at most 64 items; by `opt` at most 8, which write each
 -- register once
 abbrev pub wants_of : Task → Wants
-wants_of (cost latency) = record { limit = ITEMS; once = false; notes = true }
-wants_of (opt latency) = record { limit = LISTED; once = true; notes = true }
-wants_of (emulate state turns) = record { limit = ITEMS; once = false; notes = true }
+wants_of (cost latency) = record { limit = ITEMS; once = false }
+wants_of (opt latency) = record { limit = LISTED; once = true }
+wants_of (emulate state turns) = record { limit = ITEMS; once = false }
 
 -- A latency is at least 1, where there is one.
 abbrev pub HasLatency : Task → Type 0

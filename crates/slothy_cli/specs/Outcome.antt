@@ -75,7 +75,7 @@ file_region language wants bytes = do
 
 -- what is asked of the written region, which is read by itself
 abbrev pub wants_again : Wants
-wants_again = record { limit = LISTED; once = false; notes = true }
+wants_again = record { limit = LISTED; once = false }
 
 -- The text of `opt`: the written file of the best schedule; and its region, read by itself, leaves
 -- what the old one leaves, from every state.

@@ -29,12 +29,10 @@ impl Task<'_> {
             Task::Opt { .. } => Wants {
                 limit: LISTED as u16,
                 once: true,
-                notes: true,
             },
             _ => Wants {
                 limit: ITEMS as u16,
                 once: false,
-                notes: true,
             },
         }
     }
