@@ -16,7 +16,7 @@ use Rattle.sl_model.specs.Source.{padded, place_from}
 use Rattle.sl_model.specs.Machine.{can_count}
 use Rattle.sl_model.specs.Isa.{Op}
 use Rattle.sl_model.specs.Exec.{has_access}
-use Rattle.sl_model.specs.Lawful.{suits_set, is_tied_to}
+use Rattle.sl_model.specs.Lawful.{suits_set, is_tied_to, is_base_alone}
 use Rattle.sl_isa.specs.declared.arch.CounterOp.{CounterOp}
 use Rattle.sl_isa.specs.declared.arch.CounterOp.TheVariants.{Sub, Subs, Lsr}
 use Rattle.sl_isa.specs.declared.meaning.Size.TheVariants.{Bits64}
@@ -79,6 +79,7 @@ record MakesStep (row : Option Row) (op : CounterOp) (counter : Reg) : Type 0 wh
   output_classes : list_all suits_set (zip (written op counter) (info_at row).out_sets) ≡ true
   distinct : all_differ (written op counter) ≡ true
   tied : list_all (is_tied_to (counter ∷ [])) (zip (written op counter) (info_at row).tied) ≡ true
+  base_apart : is_base_alone same_reg (info_at row) (counter ∷ []) ≡ true
   no_access : has_access (info_at row) ≡ false
   writes : written op counter ≡ step_outputs op counter
   value : (n : ℕ) → n < 2 ^ 64
@@ -173,6 +174,7 @@ row_makes (Sub by) number h step = record {
   output_classes = and_from _ _ (suits_general number h) refl;
   distinct = refl;
   tied = refl;
+  base_apart = refl;
   no_access = refl;
   writes = refl;
   value = λ n low. lessened n by low (small by 2 step.1 (lit< tt));
@@ -186,6 +188,7 @@ row_makes Subs number h step = record {
   output_classes = and_from _ _ (suits_general number h) flags_suit;
   distinct = refl;
   tied = refl;
+  base_apart = refl;
   no_access = refl;
   writes = refl;
   value = λ n low. lessened n 1 low (lit< tt);
@@ -199,6 +202,7 @@ row_makes (Lsr by) number h step = record {
   output_classes = and_from _ _ (suits_general number h) refl;
   distinct = refl;
   tied = refl;
+  base_apart = refl;
   no_access = refl;
   writes = refl;
   value = λ n low. ap (λ m. m / 2 ^ by) (mod-eq_of_lt low);
@@ -221,6 +225,7 @@ steps_by op number line m = record {
     output_classes = m.output_classes;
     distinct = m.distinct;
     tied = m.tied;
+    base_apart = m.base_apart;
   };
   plain = (refl, refl, refl, refl);
   no_access = m.no_access;

@@ -9,7 +9,7 @@ use crate::rows::table;
 use crate::{Arm64, executing, reading};
 use sl_base::NoMemory;
 use sl_isa::{
-    Access, Arch, ArchName, Bank, CounterOp, FormErr, FormInfo, Instr, Outs, Reg, RegSet,
+    Access, Arch, ArchName, Bank, CounterOp, FormErr, FormInfo, Instr, Outs, Reg, RegSet, Symbols,
 };
 use sl_text::Token;
 use std::alloc::Global;
@@ -30,12 +30,22 @@ impl Arch for Arm64 {
         executing::offset_of(instr)
     }
 
-    fn read_form(&self, alloc: Global, tokens: &[Token<'_>]) -> Result<Instr, FormErr> {
-        reading::read_form(alloc, tokens)
+    fn read_form(
+        &self,
+        alloc: Global,
+        tokens: &[Token<'_>],
+        symbols: &mut Symbols,
+    ) -> Result<Instr, FormErr> {
+        reading::read_form(alloc, tokens, symbols)
     }
 
-    fn print_form(&self, instr: &Instr, out: &mut Vec<u8>) -> Result<(), NoMemory> {
-        reading::print_form(instr, out)
+    fn print_form(
+        &self,
+        instr: &Instr,
+        symbols: &Symbols,
+        out: &mut Vec<u8>,
+    ) -> Result<(), NoMemory> {
+        reading::print_form(instr, symbols, out)
     }
 
     fn access(&self, instr: &Instr, ins: &[u128]) -> Option<Access> {

@@ -6,12 +6,14 @@ use Rattle.std.proofs.lemmas.Bool.{ne_eqb, and_from, and_parts}
 use Rattle.std.proofs.lemmas.List.Folds.{list_all-append}
 use Rattle.sl_model.specs.declared.instruction.Instr.{Instr}
 use Rattle.sl_model.specs.declared.text.Comments.{Comments}
-use Rattle.sl_isa.specs.Language.{Language, IsLanguage, IsSpelledAt, is_no_feed, unmarked}
+use Rattle.sl_isa.specs.Language.{Language, IsLanguage, IsSpelledAt, is_no_feed, unmarked, AreSpelled}
+use Rattle.sl_isa.specs.Symbols.{Pair}
 use Rattle.asm_printer.specs.Lines as reading
 use Rattle.asm_printer.specs.declared.plan.Head.{Head}
 use Rattle.asm_printer.specs.Printed.{head_note, numbered, named, word_if, tag_name, marks_note, item_note, entries}
 use Rattle.asm_reader.specs.Notes.{NoteValue, is_tag, is_unit}
-use Rattle.asm_reader.specs.Regions.{AreRead, is_right_unit}
+use Rattle.asm_printer.proofs.Concrete.{spelled-printed}
+use Rattle.asm_reader.specs.Regions.{is_right_unit}
 use Rattle.std.specs.Char.{is_ascii_alphabetic}
 use Rattle.std.proofs.lemmas.Bool.Decides.{nat_tests}
 use Rattle.sl_model.specs.Token.{is_word_byte}
@@ -118,23 +120,24 @@ note-inside tags note i names unit =
     (all-append (named (codes " mem=") (tag_name tags i.tag)) (word_if i.early (codes " may_early") ++ word_if i.late (codes " may_late")) (some-tag-told tags i.tag names)
     (all-append (word_if i.early (codes " may_early")) (word_if i.late (codes " may_late")) (word-told i.early (codes " may_early") refl) (word-told i.late (codes " may_late") refl))))))
 
--- Each line spells its item, where the items were read.
-pub all-printed : (language : Language) (comments : Comments) (tags : List (List ℕ)) (items : List Instr) (notes : List NoteValue)
-    → IsLanguage language → AreRead language.reads items → list_all is_tag tags ≡ true → list_all (λ (note : NoteValue). is_right_unit note.unit) notes ≡ true
-    → AllByRecursion (reading.IsPrinted language.reads comments) (entries language.printed tags items notes)
+-- Each line spells its item, where words spell it without names.
+pub all-printed : (language : Language) (comments : Comments) (pairs : List Pair) (tags : List (List ℕ)) (items : List Instr) (notes : List NoteValue)
+    → IsLanguage language → AreSpelled language [] items → list_all is_tag tags ≡ true → list_all (λ (note : NoteValue). is_right_unit note.unit) notes ≡ true
+    → AllByRecursion (reading.IsPrinted language comments) (entries (language.printed pairs) tags items notes)
 unfolding entries
-all-printed language comments tags [] notes lawful read names units = tt
-all-printed language comments tags (i ∷ items) [] lawful read names units = tt
-all-printed language comments tags (i ∷ items) (note ∷ notes) lawful read names units =
-    let both = and_parts (is_right_unit note.unit) (list_all (λ (other : NoteValue). is_right_unit other.unit) notes) units in (
+all-printed language comments pairs tags [] notes lawful spelled names units = tt
+all-printed language comments pairs tags (i ∷ items) [] lawful spelled names units = tt
+all-printed language comments pairs tags (i ∷ items) (note ∷ notes) lawful spelled names units =
+    let both = and_parts (is_right_unit note.unit) (list_all (λ (other : NoteValue). is_right_unit other.unit) notes) units in
+    let same : language.printed pairs i ≡ language.printed [] (unmarked i) = spelled-printed language pairs i lawful spelled.0 in (
       record {
-        text = ap (list_all is_no_feed) (sym (lawful.unmarked_printed i)) ∙ lawful.one_line read.0.words (unmarked i) read.0.read;
+        text = ap (list_all is_no_feed) same ∙ lawful.one_line [] spelled.0.words (unmarked i) spelled.0.known spelled.0.read;
         note = note-inside tags note i names both.0;
         spelled =
-            subst (λ text. IsSpelledAt language.reads comments text 8 (codes " // @slothy:" ++ item_note tags note i) (unmarked i)) (lawful.unmarked_printed i)
-            (lawful.again read.0.words (unmarked i) read.0.read comments 8 (codes " // @slothy:" ++ item_note tags note i) refl);
+            subst (λ text. IsSpelledAt language [] comments text 8 (codes " // @slothy:" ++ item_note tags note i) (unmarked i)) (sym same)
+            (lawful.again [] spelled.0.words (unmarked i) spelled.0.known spelled.0.read comments 8 (codes " // @slothy:" ++ item_note tags note i) refl);
       },
-      all-printed language comments tags items notes lawful read.1 names both.1,
+      all-printed language comments pairs tags items notes lawful spelled.1 names both.1,
     )
 
 -- there is a line for each item, which it spells

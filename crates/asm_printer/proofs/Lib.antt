@@ -1,3 +1,4 @@
+pub mod Concrete
 pub mod ForCallers
 pub mod PrintedText
 pub mod LineTokens

@@ -9,7 +9,7 @@ use Rattle.sl_model.specs.Text.{is_blank, holds}
 use Rattle.sl_model.specs.Token.{Lexeme, tokens, first_token, lexeme, tokens_from, tokens_at, leaves_open, open_behind}
 use Rattle.sl_laws.proofs.Texts.{starts_take, first_token-block}
 use Rattle.sl_model.specs.declared.instruction.Instr.{Instr}
-use Rattle.sl_isa.specs.Language.{IsSpelledAt, is_of_instruction, is_instruction_token, Reads}
+use Rattle.sl_isa.specs.Language.{Language, IsSpelledAt, is_of_instruction, is_instruction_token}
 use Rattle.sl_model.specs.TokenTests.{is_comment, is_mark, marks}
 use Rattle.asm_reader.specs.Statements.{statements, words_of}
 use Rattle.asm_reader.proofs.ForCallers.{statements_whole}
@@ -102,7 +102,7 @@ mark_at false rest e = refl
 no_semicolon : (kind : TokenKind) (text : List ℕ) → is_of_instruction kind text ≡ true → cond (is_mark kind) (eqb (slice_index text 0) 59) false ≡ false
 no_semicolon Word text e = refl
 no_semicolon Number text e = refl
-no_semicolon Mark text e = mark_at (eqb (slice_index text 0) 59) (cond (eqb (slice_index text 0) 58) false (cond (eqb (slice_index text 0) 60) false true)) e
+no_semicolon Mark text e = mark_at (eqb (slice_index text 0) 59) (cond (eqb (slice_index text 0) 58) false true) e
 no_semicolon Comment text e = refl
 
 no_semicolons : (words rest : List Lexeme) → list_all is_instruction_token words ≡ true → list_any (marks 59) (words ++ rest) ≡ list_any (marks 59) rest
@@ -139,10 +139,10 @@ line_closed comments line words note is =
     ∙ words_closed words (line_comment is.place (codes " @slothy:" ++ note) ∷ []) is.plain (subst (AllByRecursion IsClosed) is.tokens_are (closed_from comments 0 0 line))
 
 -- the line of an instruction
-pub item_tokens : (reads : Reads) (comments : Comments) (text note : List ℕ) (i : Instr) (spelled : IsSpelledAt reads comments text 8 (codes " // @slothy:" ++ note) i)
+pub item_tokens : (language : Language) (comments : Comments) (text note : List ℕ) (i : Instr) (spelled : IsSpelledAt language [] comments text 8 (codes " // @slothy:" ++ note) i)
     → IsLine comments (codes "        " ++ (text ++ (codes " // @slothy:" ++ note))) spelled.words note
 unfolding tokens_at tokens_from
-item_tokens reads comments text note i spelled = record {
+item_tokens language comments text note i spelled = record {
   place = 8 + length text + 1;
   tokens_are = spelled.tokens ∙ ap (λ more. spelled.words ++ more) (comment_tokens comments (8 + length text + 1) (codes " @slothy:" ++ note));
   plain = spelled.plain;

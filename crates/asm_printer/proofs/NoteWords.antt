@@ -14,7 +14,7 @@ use Rattle.sl_model.specs.Token.{is_word_byte}
 use Rattle.std.specs.Char.{is_ascii_alphabetic}
 use Rattle.std.proofs.lemmas.Fmt.{decimal_by_steps}
 use Rattle.std.proofs.lemmas.Bool.Decides.{nat_tests}
-use Rattle.asm_reader.specs.Reading.{may_say}
+use Rattle.asm_reader.specs.Drafts.{may_say}
 use Rattle.asm_reader.specs.Regions.{is_right_unit}
 use Rattle.asm_printer.proofs.Entries.{both-pass}
 use Rattle.asm_printer.specs.declared.plan.Head.{Head}

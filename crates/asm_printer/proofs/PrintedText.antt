@@ -4,6 +4,7 @@ use Rattle.std.proofs.lemmas.Bool.{cases_Bool, eqb-true}
 use Rattle.std.proofs.lemmas.List.{reverse-append, reverse-reverse}
 use Rattle.std.specs.Result.{OnOk}
 use Rattle.sl_model.specs.declared.instruction.Instr.{Instr}
+use Rattle.sl_isa.specs.Symbols.{Pair}
 use Rattle.asm_reader.specs.Reading.{Region}
 use Rattle.asm_printer.specs.Printed.{PlanValue, ends_by_both, line_end, head_note, entries, region_text, written_text}
 use Rattle.asm_printer.specs.Lines.{head_line, item_lines}
@@ -29,20 +30,20 @@ other_line_end text other =
     ap (λ b. cond b (13 ∷ 10 ∷ []) (10 ∷ [])) (other_end (reverse text) (λ front e. other front (sym (reverse-reverse text) ∙ e)))
 
 -- the written file, whose parts were written one behind the other
-pub text-whole : (printed : Instr → List ℕ) (region : Region) (items : List Instr) (plan : PlanValue) (end first head lines whole : List ℕ)
+pub text-whole : (printed : List Pair → Instr → List ℕ) (region : Region) (items : List Instr) (plan : PlanValue) (end first head lines whole : List ℕ)
     → end ≡ line_end region.parts.before → first ≡ region.parts.before → head ≡ first ++ head_line (head_note plan.head) end
-    → lines ≡ head ++ item_lines end (entries printed region.tags items plan.notes) → whole ≡ lines ++ region.parts.after
+    → lines ≡ head ++ item_lines end (entries (printed region.pairs) region.tags items plan.notes) → whole ≡ lines ++ region.parts.after
     → whole ≡ written_text printed region items plan
 unfolding region_text
 text-whole printed region items plan end first head lines whole ends begins heads are closes =
     let before : List ℕ = region.parts.before in
     let top : List ℕ = head_line (head_note plan.head) end in
-    let item_text : List ℕ = item_lines end (entries printed region.tags items plan.notes) in
+    let item_text : List ℕ = item_lines end (entries (printed region.pairs) region.tags items plan.notes) in
     closes
     ∙ ap (λ v. v ++ region.parts.after) (are ∙ ap (λ v. v ++ item_text) (heads ∙ ap (λ v. v ++ top) begins))
     ∙ ap (λ v. v ++ region.parts.after) (append_assoc before top item_text)
     ∙ append_assoc before (top ++ item_text) region.parts.after
-    ∙ ap (λ v. before ++ ((head_line (head_note plan.head) v ++ item_lines v (entries printed region.tags items plan.notes)) ++ region.parts.after)) ends
+    ∙ ap (λ v. before ++ ((head_line (head_note plan.head) v ++ item_lines v (entries (printed region.pairs) region.tags items plan.notes)) ++ region.parts.after)) ends
 
 -- what holds of an Ok, said otherwise
 pub ok-map : {T E : Type 0} {P Q : Type 0} (r : Result T E) → (P → Q) → OnOk r P → OnOk r Q

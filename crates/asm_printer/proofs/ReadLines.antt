@@ -10,7 +10,9 @@ use Rattle.sl_model.specs.Exec.{has_access}
 use Rattle.sl_model.specs.Isa.{Isa}
 use Rattle.sl_model.specs.ResultSteps.{◌>>=◌}
 use Rattle.sl_isa.specs.Arch.{comments_of}
-use Rattle.sl_isa.specs.Language.{Language, Reads, is_no_feed, unmarked}
+use Rattle.sl_isa.specs.Language.{Language, is_no_feed, knows_words, unmarked}
+use Rattle.sl_isa.specs.Symbols.{Pair}
+use Rattle.sl_isa.proofs.ForCallers.{with_pairs-known}
 use Rattle.asm_reader.specs.declared.reasons.Reason.TheVariants as reason
 use Rattle.asm_reader.specs.declared.reasons.Wants.{Wants}
 use Rattle.asm_reader.specs.Notes.{Remark, Said, of_item, of_region, note_said}
@@ -19,9 +21,12 @@ use Rattle.std.specs.Str.{str_eq_ignore_ascii_case}
 use Rattle.std.proofs.lemmas.List.{length-map}
 use Rattle.asm_printer.proofs.NoteWords.{IsSaid}
 use Rattle.asm_reader.specs.Statements.{Statement, words_of, note_in, on_line, outside, statements_of}
-use Rattle.asm_reader.specs.Reading.{Draft, refused, no_draft, writes_again, longer, with_item, with_last, marked, with_remark, may_say, right_note, instr_or, instr_of, said_by, said_of, with_said, with_statement, with_statements, region_alone}
+use Rattle.asm_reader.specs.Drafts.{Draft, refused, no_draft, most_items, longer, with_item, with_last, marked, with_remark, may_say, with_said, with_noted}
+use Rattle.asm_reader.specs.Reading.{Progress, no_progress, right_note, instr_or, instr_of, pairs_after, said_by, said_of, with_statement, with_statements, unless_at, body_statements, body_read, region_alone}
+use Rattle.asm_reader.specs.Unset.{first_unset}
 use Rattle.asm_printer.specs.Lines.{Printed, IsPrinted, IsLineEnd, item_line, item_lines, region_lines, printed_items, is_inside_line}
-use Rattle.asm_reader.proofs.ForCallers.{no_statements, statement_read, parts_read, no_lines_read, line_read}
+use Rattle.asm_printer.proofs.Concrete.{reads_concrete, read-unmarked, none-unset}
+use Rattle.asm_reader.proofs.ForCallers.{named_draft, no_statements, statement_read, parts_read, no_lines_read, line_read}
 use Rattle.asm_printer.proofs.LineTokens.{line_comment, IsLine, line_statements, line_words, line_closed, item_tokens, head_tokens}
 use Rattle.std.proofs.lemmas.Bool.Decides.{nat_tests}
 use Rattle.std.proofs.lemmas.Bool.{and_parts, not-true}
@@ -113,8 +118,8 @@ body_of printed = codes "        " ++ (printed.text ++ (codes " // @slothy:" ++ 
 head_whole : (note end : List ℕ) → list_all is_inside_line note ≡ true → IsLineEnd end → IsWhole (head_of note) end
 head_whole note end inside ends = whole_line [] (head_of note) end refl (omega arith) inside ends
 
-body_whole : (reads : Reads) (comments : Comments) (printed : Printed) (end : List ℕ) → IsPrinted reads comments printed → IsLineEnd end → IsWhole (body_of printed) end
-body_whole reads comments printed end is ends = whole_line (codes "        " ++ printed.text) (codes " // @slothy:" ++ printed.note) end is.text (omega arith) is.note ends
+body_whole : (language : Language) (comments : Comments) (printed : Printed) (end : List ℕ) → IsPrinted language comments printed → IsLineEnd end → IsWhole (body_of printed) end
+body_whole language comments printed end is ends = whole_line (codes "        " ++ printed.text) (codes " // @slothy:" ++ printed.note) end is.text (omega arith) is.note ends
 
 -- ---- the note of a line
 
@@ -145,17 +150,22 @@ marked-last f [] i e = ap (λ j. j ∷ []) e
 marked-last f (a ∷ []) i e = ap (λ j. unmarked a ∷ j ∷ []) e
 marked-last f (a ∷ b ∷ items) i e = ap (λ more. unmarked a ∷ more) (marked-last f (b ∷ items) i e)
 
--- A region is read as these items, their lines, tags and marks aside.
-pub record ReadsAs (read : Result Draft Refusal) (items : List Instr) : Type 0 where
-  pub new : Draft
+-- A region is read as these items, their lines, tags and marks aside, without symbolic registers.
+pub record ReadsAs (read : Result Progress Refusal) (items : List Instr) : Type 0 where
+  pub new : Progress
   pub is : read ≡ Ok new
-  pub same : map unmarked new.items ≡ items
+  pub same : map unmarked new.draft.items ≡ items
+  pub plain : new.pairs ≡ []
+
+-- a draft without symbolic registers
+abbrev plain_read : Draft → Progress
+plain_read draft = record { draft = draft; pairs = [] }
 
 -- the note of a line that says something of its instruction
 abbrev pub IsNoted : Isa → Printed → Type 0
 IsNoted isa printed = IsSaid (has_access (isa.info printed.item.form)) printed.note
 
-module _ (language : Language) (wants : Wants) (some : (i : Instr) → language.reads [] ≡ Ok i → ⊥) (once : wants.once ≡ false) where
+module _ (language : Language) (wants : Wants) (some : (i : Instr) → language.reads [] [] ≡ Ok i → ⊥) where
   abbrev pub comments : Comments
   comments = comments_of language.isa.name
 
@@ -168,36 +178,45 @@ module _ (language : Language) (wants : Wants) (some : (i : Instr) → language.
       ∙ ap (right_note line) is
 
   -- an instruction for which there is room
-  item_added : (accesses : Bool) (line : ℕ) (draft : Draft) (i : Instr) → length draft.items < wants.limit → with_item wants accesses line draft i ≡ Ok (longer accesses line draft i)
+  item_added : (accesses : Bool) (line : ℕ) (draft : Draft) (i : Instr) → length draft.items < most_items wants → with_item wants accesses line draft i ≡ Ok (longer accesses line draft i)
   item_added accesses line draft i room =
-      ap (λ b. cond (not b) (refused line (reason.TooMany wants.limit)) (cond (wants.once && writes_again draft.items i) (refused line reason.NotYet) (Ok (longer accesses line draft i))))
-      (lt-ltb (length draft.items) wants.limit room)
-      ∙ ap (λ b. cond (b && writes_again draft.items i) (refused line reason.NotYet) (Ok (longer accesses line draft i))) once
+      ap (λ b. cond b (Ok (longer accesses line draft i)) (refused line (reason.TooMany (most_items wants)))) (lt-ltb (length draft.items) (most_items wants) room)
 
-  words_read : (line : ℕ) (words : List Lexeme) (i : Instr) → language.reads words ≡ Ok i → instr_of language.reads line words ≡ Ok (Some i)
-  words_read line [] i read = absurd (some i read)
-  words_read line (first ∷ words) i read = ap (instr_or line (first ∷ words)) read
+  -- words of an instruction without symbolic registers
+  words_read : (line : ℕ) (words : List Lexeme) (i : Instr) → knows_words language [] words ≡ true → language.reads [] words ≡ Ok i → instr_of language [] line words ≡ Ok (Some i)
+  words_read line [] i known read = absurd (some i read)
+  words_read line (first ∷ words) i known read =
+      ap (instr_or line (first ∷ words)) (ap (λ pairs. language.reads pairs (first ∷ words)) (with_pairs-known [] (language.pairs_in (first ∷ words)) known) ∙ read)
+
+  -- and they have no names
+  no_names : (words : List Lexeme) → knows_words language [] words ≡ true → pairs_after language [] words ≡ []
+  no_names [] known = refl
+  no_names (first ∷ words) known = with_pairs-known [] (language.pairs_in (first ∷ words)) known
 
   -- a statement of an instruction, with its note
-  statement_added : (line : ℕ) (draft : Draft) (tokens words : List Lexeme) (i : Instr) (remark : Remark) → words_of tokens ≡ words → language.reads words ≡ Ok i
+  statement_added : (line : ℕ) (draft : Draft) (tokens words : List Lexeme) (i : Instr) (remark : Remark) → words_of tokens ≡ words → knows_words language [] words ≡ true → language.reads [] words ≡ Ok i
       → said_of (record { line = line; tokens = tokens }) ≡ Ok (Some (of_item remark)) → may_say (has_access (language.isa.info i.form)) (Some (of_item remark)) ≡ true
-      → length draft.items < wants.limit
-      → with_statement language wants draft (record { line = line; tokens = tokens }) ≡ Ok (with_remark (longer (has_access (language.isa.info i.form)) line draft i) remark)
-  statement_added line draft tokens words i remark are read said may room =
+      → length draft.items < most_items wants
+      → with_statement language wants (plain_read draft) (record { line = line; tokens = tokens }) ≡ Ok (plain_read (with_remark (longer (has_access (language.isa.info i.form)) line draft i) remark))
+  statement_added line draft tokens words i remark are known read said may room =
       let accesses = has_access (language.isa.info i.form) in
-      parts_read language wants draft (record { line = line; tokens = tokens }) (Some i) (Some (of_item remark))
-      (ap (instr_of language.reads line) are ∙ words_read line words i read) said
-      ∙ ap (λ b. cond b (with_item wants accesses line draft i >>= λ more. Ok (with_said more (Some (of_item remark)))) (refused line reason.TagBad)) may
-      ∙ ap (λ r. r >>= λ more. Ok (with_said more (Some (of_item remark)))) (item_added accesses line draft i room)
+      let statement : Statement = record { line = line; tokens = tokens } in
+      let added : with_noted wants accesses line draft (Some (of_item remark)) i ≡ Ok (with_remark (longer accesses line draft i) remark) =
+      ap (λ b. cond b (with_item wants accesses line draft i >>= λ more. Ok (with_said more (Some (of_item remark)))) (refused line reason.TagBad)) may
+      ∙ ap (λ r. r >>= λ more. Ok (with_said more (Some (of_item remark)))) (item_added accesses line draft i room) in
+      parts_read language wants (plain_read draft) statement (Some i) (Some (of_item remark)) (ap (instr_of language [] line) are ∙ words_read line words i known read) said
+      ∙ ap (λ r. r >>= λ more. Ok (named_draft language (plain_read draft) statement more)) added
+      ∙ ap (λ (pairs : List Pair). Ok (record { draft = with_remark (longer accesses line draft i) remark; pairs = pairs })) (ap (pairs_after language []) are ∙ no_names words known)
 
   -- and one without words, of which the note is of the region
   head_added : (line : ℕ) (draft : Draft) (tokens : List Lexeme) (mask : ℕ) → words_of tokens ≡ [] → said_of (record { line = line; tokens = tokens }) ≡ Ok (Some (of_region mask))
-      → with_statement language wants draft (record { line = line; tokens = tokens }) ≡ Ok (with_said draft (Some (of_region mask)))
+      → with_statement language wants (plain_read draft) (record { line = line; tokens = tokens }) ≡ Ok (plain_read (with_said draft (Some (of_region mask))))
   head_added line draft tokens mask are said =
-      parts_read language wants draft (record { line = line; tokens = tokens }) None (Some (of_region mask)) (ap (instr_of language.reads line) are) said
+      parts_read language wants (plain_read draft) (record { line = line; tokens = tokens }) None (Some (of_region mask)) (ap (instr_of language [] line) are) said
+      ∙ ap (λ (pairs : List Pair). Ok (record { draft = with_said draft (Some (of_region mask)); pairs = pairs })) (ap (pairs_after language []) are)
 
   -- a line of words and a comment
-  line_added : (number : ℕ) (draft more : Draft) (line end : List ℕ) (lines : List (List ℕ)) (words : List Lexeme) (note : List ℕ) → IsWhole line end → (is : IsLine comments line words note)
+  line_added : (number : ℕ) (draft more : Progress) (line end : List ℕ) (lines : List (List ℕ)) (words : List Lexeme) (note : List ℕ) → IsWhole line end → (is : IsLine comments line words note)
       → with_statement language wants draft (record { line = number; tokens = words ++ line_comment is.place (codes " @slothy:" ++ note) ∷ [] }) ≡ Ok more
       → with_statements language wants draft (statements_of comments false number ((line ++ end) ∷ lines)) ≡ with_statements language wants more (statements_of comments false (number + 1) lines)
   line_added number draft more line end lines words note whole is added =
@@ -212,41 +231,43 @@ module _ (language : Language) (wants : Wants) (some : (i : Instr) → language.
       ∙ ap (λ b. with_statements language wants more (statements_of comments b (number + 1) lines)) (line_closed comments line words note is)
 
   -- the lines of instructions
-  items_added : (end : List ℕ) (number : ℕ) (draft : Draft) (printed : List Printed) → IsLineEnd end → AllByRecursion (IsPrinted language.reads comments) printed
-      → AllByRecursion (IsNoted language.isa) printed → length draft.items + length printed ≤ wants.limit
-      → ReadsAs (with_statements language wants draft (statements_of comments false number (whole_lines (item_lines end printed)))) (map unmarked draft.items ++ map unmarked (printed_items printed))
+  items_added : (end : List ℕ) (number : ℕ) (draft : Draft) (printed : List Printed) → IsLineEnd end → AllByRecursion (IsPrinted language comments) printed
+      → AllByRecursion (IsNoted language.isa) printed → length draft.items + length printed ≤ most_items wants
+      → ReadsAs (with_statements language wants (plain_read draft) (statements_of comments false number (whole_lines (item_lines end printed)))) (map unmarked draft.items ++ map unmarked (printed_items printed))
   unfolding item_lines whole_lines
   items_added end number draft [] ends are noted room = record {
-    new = draft;
-    is = no_lines_read language wants comments false number draft;
+    new = plain_read draft;
+    is = no_lines_read language wants comments false number (plain_read draft);
     same = sym (append-nil (map unmarked draft.items));
+    plain = refl;
   }
   items_added end number draft (first ∷ more) ends are noted room =
       let i = record first.item { line = number } in
       let accesses = has_access (language.isa.info first.item.form) in
       let remark = noted.0.remark number in
       let next : Draft = with_remark (longer accesses number draft first.item) remark in
-      let whole = body_whole language.reads comments first end are.0 ends in
+      let whole = body_whole language comments first end are.0 ends in
       let spelled = are.0.spelled in
       let lines = whole_lines (item_lines end more) in
-      let is = item_tokens language.reads comments first.text first.note first.item spelled in
+      let is = item_tokens language comments first.text first.note first.item spelled in
       let all : map unmarked next.items ≡ map unmarked draft.items ++ unmarked first.item ∷ [] = marked-last (marked draft.tags remark) draft.items i refl in
       let one : length (map unmarked draft.items ++ unmarked first.item ∷ []) ≡ length draft.items + 1 = length-append (map unmarked draft.items) (unmarked first.item ∷ []) ∙ ap (λ n. n + 1) (length-map draft.items unmarked) in
       let count : length next.items ≡ length draft.items + 1 = sym (length-map next.items unmarked) ∙ ap length all ∙ one in
-      let room_here : length draft.items < wants.limit = omega arith in
-      let fit : length next.items + length more ≤ wants.limit = omega (arith, count) in
+      let room_here : length draft.items < most_items wants = omega arith in
+      let fit : length next.items + length more ≤ most_items wants = omega (arith, count) in
       let rest = items_added end (number + 1) next more ends are.1 noted.1 fit in
       record {
         new = rest.new;
         is =
-            ap (λ text. with_statements language wants draft (statements_of comments false number (whole_lines (text ++ item_lines end more)))) (line_text first end)
-            ∙ ap (λ ls. with_statements language wants draft (statements_of comments false number ls)) (whole.first (item_lines end more))
-            ∙ line_added number draft next (body_of first) end lines spelled.words first.note whole is
+            ap (λ text. with_statements language wants (plain_read draft) (statements_of comments false number (whole_lines (text ++ item_lines end more)))) (line_text first end)
+            ∙ ap (λ ls. with_statements language wants (plain_read draft) (statements_of comments false number ls)) (whole.first (item_lines end more))
+            ∙ line_added number (plain_read draft) (plain_read next) (body_of first) end lines spelled.words first.note whole is
             (statement_added number draft (spelled.words ++ line_comment is.place (codes " @slothy:" ++ first.note) ∷ []) spelled.words first.item remark
-            (line_words comments (body_of first) spelled.words first.note is) spelled.read
+            (line_words comments (body_of first) spelled.words first.note is) spelled.known spelled.read
             (note_behind number spelled.words is.place first.note (of_item remark) (noted.0.said number)) (noted.0.allowed number) room_here)
             ∙ rest.is;
         same = rest.same ∙ ap (λ l. l ++ map unmarked (printed_items more)) all ∙ append_assoc (map unmarked draft.items) (unmarked first.item ∷ []) (map unmarked (printed_items more));
+        plain = rest.plain;
       }
     where
       line_text : (printed : Printed) (end : List ℕ) → item_line end printed ≡ body_of printed ++ end
@@ -254,21 +275,25 @@ module _ (language : Language) (wants : Wants) (some : (i : Instr) → language.
 
   -- the whole region
   pub region_added : (note end : List ℕ) (mask : ℕ) (printed : List Printed) → list_all is_inside_line note ≡ true → note_said 1 (codes "region" ++ note) ≡ Some (of_region mask) → IsLineEnd end
-      → AllByRecursion (IsPrinted language.reads comments) printed → AllByRecursion (IsNoted language.isa) printed
-      → length printed ≤ wants.limit → ReadsAs (region_alone language wants (region_lines note end printed)) (map unmarked (printed_items printed))
-  region_added note end mask printed inside says ends are noted room =
+      → AllByRecursion (IsPrinted language comments) printed → AllByRecursion (IsNoted language.isa) printed
+      → length printed ≤ most_items wants → list_all reads_concrete (map unmarked (printed_items printed)) ≡ true → ReadsAs (region_alone language wants (region_lines note end printed)) (map unmarked (printed_items printed))
+  unfolding body_read
+  region_added note end mask printed inside says ends are noted room concrete =
       let whole = head_whole note end inside ends in
       let is = head_tokens comments note in
       let headed : Draft = with_said no_draft (Some (of_region mask)) in
-      let fit : 0 + length printed ≤ wants.limit = omega arith in
+      let fit : 0 + length printed ≤ most_items wants = omega arith in
       let rest = items_added end 2 headed printed ends are noted fit in
+      let read : with_statements language wants no_progress (body_statements language false 1 (region_lines note end printed)) ≡ Ok rest.new =
+      ap (λ ls. with_statements language wants no_progress (statements_of comments false 1 ls)) (whole.first (item_lines end printed))
+      ∙ line_added 1 no_progress (plain_read headed) (head_of note) end (whole_lines (item_lines end printed)) [] (codes "region" ++ note) whole is
+      (head_added 1 no_draft (line_comment is.place (codes " @slothy:region" ++ note) ∷ []) mask (line_words comments (head_of note) [] (codes "region" ++ note) is)
+      (note_behind 1 [] is.place (codes "region" ++ note) (of_region mask) says))
+      ∙ rest.is in
+      let set : first_unset [] rest.new.draft.items ≡ None = none-unset [] rest.new.draft.items (sym (read-unmarked rest.new.draft.items) ∙ ap (list_all reads_concrete) rest.same ∙ concrete) in
       record {
         new = rest.new;
-        is =
-            ap (λ ls. with_statements language wants no_draft (statements_of comments false 1 ls)) (whole.first (item_lines end printed))
-            ∙ line_added 1 no_draft headed (head_of note) end (whole_lines (item_lines end printed)) [] (codes "region" ++ note) whole is
-            (head_added 1 no_draft (line_comment is.place (codes " @slothy:region" ++ note) ∷ []) mask (line_words comments (head_of note) [] (codes "region" ++ note) is)
-            (note_behind 1 [] is.place (codes "region" ++ note) (of_region mask) says))
-            ∙ rest.is;
+        is = ap (λ r. r >>= λ all. unless_at reason.SymbolUnset (first_unset [] all.draft.items) all) read ∙ ap (λ line. unless_at reason.SymbolUnset line rest.new) set;
         same = rest.same;
+        plain = rest.plain;
       }

@@ -1,5 +1,6 @@
 -- What is read of the written region of a legal schedule, and what it leaves.
 use Rattle.std.proofs.Common.{◌≡◌, ℕ, zero, suc, ◌+◌, ◌^◌, ◌&&◌, not, nat_lt, slice_get, is_some, Option, None, Some, sym, ◌≤◌, Bool, true, false, List, [], ◌∷◌, ◌++◌, length, map, reverse, codes, inl, inr, if◌then◌else◌, refl, ap, ◌∙◌, arith}
+use Rattle.sl_model.specs.declared.frame.Frame.{Frame}
 use Rattle.sl_model.specs.declared.register.Reg.{Reg}
 use Rattle.sl_model.specs.declared.instruction.Instr.{Instr}
 use Rattle.sl_isa.specs.Arch.{comments_of}
@@ -8,8 +9,11 @@ use Rattle.sl_model.specs.Isa.{Isa}
 use Rattle.sl_model.specs.Exec.{loaded_by, values_of, memory_after, Touch, has_access, touch_of, exec, run, touches, operand_values}
 use Rattle.sl_model.specs.Program.{Program, Leaves, is_access, times_of}
 use Rattle.sl_model.specs.Program.Program.{Straight}
-use Rattle.sl_isa.specs.Language.{Language, IsLanguage, unmarked}
+use Rattle.sl_isa.specs.Language.{Language, IsLanguage, unmarked, AreSpelled}
+use Rattle.sl_isa.specs.Symbols.{Pair}
+use Rattle.asm_printer.proofs.Concrete.{reads_concrete, all-read}
 use Rattle.asm_reader.specs.declared.reasons.Wants.{Wants}
+use Rattle.asm_reader.specs.Drafts.{most_items}
 use Rattle.asm_reader.specs.Reading.{region_alone}
 use Rattle.asm_printer.specs.Lines.{IsLineEnd}
 use Rattle.asm_printer.specs.Lines as reading
@@ -18,7 +22,7 @@ use Rattle.asm_printer.proofs.NoteWords.{right_tag, lt_from, note-said, head-sai
 use Rattle.std.proofs.lemmas.Bool.{and_parts, not-true}
 use Rattle.asm_printer.specs.Printed.{PlanValue, head_note, ends_by_both, line_end, tag_name, fits, is_whole, is_whole_head, is_whole_plan, entries, region_text}
 use Rattle.asm_reader.specs.Notes.{NoteValue, is_tag}
-use Rattle.asm_reader.specs.Regions.{AreRead, is_right_tag, is_marked_right, is_right_unit}
+use Rattle.asm_reader.specs.Regions.{is_right_tag, is_marked_right, is_right_unit}
 use Rattle.std.specs.List.{list_all, AllByRecursion}
 use Rattle.asm_printer.proofs.Entries.{head-inside, all-printed, length-entries, entries-unmarked}
 
@@ -44,9 +48,9 @@ times-unmarked isa a (i ∷ items) s =
     (touches isa (map unmarked items) (exec isa i s)) (touches isa items (exec isa i s)) refl (times-unmarked isa a items (exec isa i s))
 
 -- Where two lists differ in lines, tags and marks alone, the second leaves what the first leaves.
-pub leaves-unmarked : (isa : Isa) (decrement : Bool → Reg → Instr) (live free : List Reg) (old : Program) (items new : List Instr) (s : State) → map unmarked new ≡ map unmarked items
-    → Leaves isa decrement live free old (Straight items) s → Leaves isa decrement live free old (Straight new) s
-leaves-unmarked isa decrement live free old items new s same leaves =
+pub leaves-unmarked : (isa : Isa) (decrement : Bool → Reg → Instr) (frame : Frame) (old : Program) (items new : List Instr) (s : State) → map unmarked new ≡ map unmarked items
+    → Leaves isa decrement frame old (Straight items) s → Leaves isa decrement frame old (Straight new) s
+leaves-unmarked isa decrement frame old items new s same leaves =
     let runs : run isa new s ≡ run isa items s = sym (run-unmarked isa new s) ∙ ap (λ l. run isa l s) same ∙ run-unmarked isa items s in
     record {
       registers = λ r one. ap (λ (t : State). read t r) runs ∙ leaves.registers r one;
@@ -71,13 +75,13 @@ tag-accesses accesses tags None h some = cc
 tag-accesses accesses tags (Some k) h some = (and_parts accesses (nat_lt k (length tags)) h).0
 
 -- Each line says something of its instruction.
-all-said : (language : Language) (tags : List (List ℕ)) (items : List Instr) (notes : List NoteValue) → list_all is_tag tags ≡ true
+all-said : (language : Language) (pairs : List Pair) (tags : List (List ℕ)) (items : List Instr) (notes : List NoteValue) → list_all is_tag tags ≡ true
     → list_all (is_marked_right language.isa (length tags)) items ≡ true → list_all (λ (note : NoteValue). is_right_unit note.unit) notes ≡ true → list_all is_whole notes ≡ true
-    → AllByRecursion (IsNoted language.isa) (entries language.printed tags items notes)
+    → AllByRecursion (IsNoted language.isa) (entries (language.printed pairs) tags items notes)
 unfolding entries
-all-said language tags [] notes names marks units whole = tt
-all-said language tags (i ∷ items) [] names marks units whole = tt
-all-said language tags (i ∷ items) (note ∷ notes) names marks units whole =
+all-said language pairs tags [] notes names marks units whole = tt
+all-said language pairs tags (i ∷ items) [] names marks units whole = tt
+all-said language pairs tags (i ∷ items) (note ∷ notes) names marks units whole =
     let accesses : Bool = has_access (language.isa.info i.form) in
     let mark = and_parts (is_marked_right language.isa (length tags) i) (list_all (is_marked_right language.isa (length tags)) items) marks in
     let right = and_parts (is_right_tag accesses (length tags) i.tag) (not (i.early && i.late)) mark.0 in
@@ -88,29 +92,32 @@ all-said language tags (i ∷ items) (note ∷ notes) names marks units whole =
     let cycle = and_parts (fits note.cycle) (nat_lt note.line (2 ^ 64)) one.1 in (
       note-said accesses note.item note.unit note.cycle note.line (tag_name tags i.tag) i.early i.late item.0 one.0 unit.0 cycle.0 (lt_from note.line (2 ^ 64) cycle.1)
           (tag-right tags i.tag names) (not-true (i.early && i.late) right.1) (tag-accesses accesses tags i.tag right.0),
-      all-said language tags items notes names mark.1 unit.1 fit.1,
+      all-said language pairs tags items notes names mark.1 unit.1 fit.1,
     )
 
--- A printed region whose instructions were read is read by itself, with its notes, as these, their lines, tags and marks aside.
-pub region-reads : (language : Language) (wants : Wants) (tags : List (List ℕ)) (items : List Instr) (plan : PlanValue) (end : List ℕ)
-    → IsLanguage language → wants.once ≡ false → length items ≤ wants.limit → AreRead language.reads items → list_all is_tag tags ≡ true
+-- A printed region of items that words spell without symbolic registers is read by itself, with its notes, as these, their lines, tags and marks aside.
+pub region-reads : (language : Language) (wants : Wants) (pairs : List Pair) (tags : List (List ℕ)) (items : List Instr) (plan : PlanValue) (end : List ℕ)
+    → IsLanguage language → length items ≤ most_items wants → AreSpelled language [] items → list_all is_tag tags ≡ true
     → list_all (is_marked_right language.isa (length tags)) items ≡ true → list_all (λ (note : NoteValue). is_right_unit note.unit) plan.notes ≡ true
     → is_whole_plan plan ≡ true → length plan.notes ≡ length items → IsLineEnd end
-    → ReadsAs (region_alone language wants (region_text language.printed tags items plan end)) (map unmarked items)
+    → ReadsAs (region_alone language wants (region_text (language.printed pairs) tags items plan end)) (map unmarked items)
 unfolding region_text
-region-reads language wants tags items plan end lawful once few read names marks units whole each ends =
-    let lines : List reading.Printed = entries language.printed tags items plan.notes in
-    let fit : length lines ≤ wants.limit = omega (arith, length-entries language.printed tags items plan.notes each) in
+region-reads language wants pairs tags items plan end lawful few spelled names marks units whole each ends =
+    let lines : List reading.Printed = entries (language.printed pairs) tags items plan.notes in
+    let fit : length lines ≤ most_items wants = omega (arith, length-entries (language.printed pairs) tags items plan.notes each) in
+    let same = entries-unmarked (language.printed pairs) tags items plan.notes each in
     let parts = and_parts (is_whole_head plan.head) (list_all is_whole plan.notes) whole in
     let head = head-said plan.head parts.0 in
     let added =
-    region_added language wants lawful.nothing once (head_note plan.head) end head.0 lines (head-inside plan.head) head.1 ends
-    (all-printed language (comments_of language.isa.name) tags items plan.notes lawful read names units)
-    (all-said language tags items plan.notes names marks units parts.1) fit in
+    region_added language wants (lawful.nothing []) (head_note plan.head) end head.0 lines (head-inside plan.head) head.1 ends
+    (all-printed language (comments_of language.isa.name) pairs tags items plan.notes lawful spelled names units)
+    (all-said language pairs tags items plan.notes names marks units parts.1) fit
+    (ap (list_all reads_concrete) same ∙ all-read language items lawful spelled) in
     record {
       new = added.new;
       is = added.is;
-      same = added.same ∙ entries-unmarked language.printed tags items plan.notes each;
+      same = added.same ∙ same;
+      plain = added.plain;
     }
 
 -- the end of the lines is one of the two

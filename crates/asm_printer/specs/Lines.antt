@@ -4,7 +4,7 @@ use Rattle.std.specs.Prelude.{ℕ, ◌==◌, ◌≡◌, ◌⊎◌, Bool, true, f
 use Rattle.std.specs.List.{list_all}
 use Rattle.sl_model.specs.declared.instruction.Instr.{Instr}
 use Rattle.sl_model.specs.declared.text.Comments.{Comments}
-use Rattle.sl_isa.specs.Language.{IsSpelledAt, Reads, is_no_feed}
+use Rattle.sl_isa.specs.Language.{Language, IsSpelledAt, is_no_feed}
 
 -- A printed instruction: its text, and what its note says.
 pub record Printed : Type 0 where
@@ -42,10 +42,10 @@ region_lines note end printed = head_line note end ++ item_lines end printed
 abbrev pub is_inside_line : ℕ → Bool
 is_inside_line c = if c == 10 then false else not (c == 13)
 
--- The text of a printed instruction spells it where it stands, and neither
--- it nor the note ends the line.
-pub record IsPrinted (reads : Reads) (comments : Comments) (printed : Printed) : Type 0 where
+-- The text of a printed instruction spells it where it stands, without symbolic registers, and
+-- neither it nor the note ends the line.
+pub record IsPrinted (language : Language) (comments : Comments) (printed : Printed) : Type 0 where
   pub text : list_all is_no_feed printed.text ≡ true
   pub note : list_all is_inside_line printed.note ≡ true
-  pub spelled : IsSpelledAt reads comments printed.text 8
+  pub spelled : IsSpelledAt language [] comments printed.text 8
       (codes " // @slothy:" ++ printed.note) printed.item

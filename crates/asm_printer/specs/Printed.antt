@@ -4,6 +4,7 @@ use Rattle.std.specs.List.{list_all}
 use Rattle.std.specs.Fmt.{decimal}
 use Rattle.sl_model.specs.declared.instruction.Instr.{Instr}
 use Rattle.sl_isa.specs.Language.{unmarked}
+use Rattle.sl_isa.specs.Symbols.{Pair}
 use Rattle.asm_reader.specs.Notes.{NoteValue}
 use Rattle.asm_reader.specs.Reading.{Region}
 use Rattle.asm_printer.specs.declared.plan.Head.{Head}
@@ -104,9 +105,10 @@ unfoldable pub region_text : (Instr → List ℕ) → List (List ℕ) → List I
 region_text printed tags items plan end =
     region_lines (head_note plan.head) end (entries printed tags items plan.notes)
 
--- the written file: what stands before the region, the printed region, and what stands behind it
-abbrev pub written_text : (Instr → List ℕ) → Region → List Instr → PlanValue → List ℕ
+-- the written file: what stands before the region, the printed region with the names of its
+-- symbolic registers and of its tags, and what stands behind it
+abbrev pub written_text : (List Pair → Instr → List ℕ) → Region → List Instr → PlanValue → List ℕ
 written_text printed region items plan =
     region.parts.before
-    ++ (region_text printed region.tags items plan (line_end region.parts.before)
+    ++ (region_text (printed region.pairs) region.tags items plan (line_end region.parts.before)
     ++ region.parts.after)

@@ -1,8 +1,11 @@
 //! The written file: how it is printed.
 ghost use Rattle.std.specs.Prelude.{◌≡◌, ◌++◌, IfOk, OnOk, map};
 ghost use Rattle.sl_model.specs.Lawful.{IsValid, AreValid};
+ghost use Rattle.sl_isa.specs.Language.{IsNamed};
+ghost use Rattle.sl_isa.specs.SymbolViews.{pairs};
 ghost use Rattle.asm_reader.specs.NoteViews.{note_value};
 ghost use Rattle.asm_reader.specs.RegionViews.{region_of};
+ghost use Rattle.asm_reader.specs.Regions.{AreNamed};
 ghost use Rattle.asm_reader.specs.TagViews.{tag_names};
 ghost use Rattle.asm_printer.specs.Printed as spec;
 ghost use Rattle.asm_printer.specs.Lines.{head_line, item_line, item_lines};
@@ -12,9 +15,16 @@ use crate::note::{push_head_note, push_note};
 use crate::plan::{Head, Plan};
 use asm_reader::{Note, Region, Tags};
 use sl_base::{NoMemory, append};
-use sl_isa::Arch;
+use sl_isa::{Arch, Symbols};
 use sl_model::instruction::Instr;
 use std::alloc::Global;
+
+// The names of the symbolic registers and of the tags of a region.
+#[derive(Clone, Copy)]
+struct Names<'a> {
+    symbols: &'a Symbols,
+    tags: &'a Tags<'a>,
+}
 
 // The end of the lines that are printed: as that of the last line before the region.
 fn line_end(before: &str) -> &'static [u8]
@@ -41,19 +51,21 @@ fn push_head(out: &mut Vec<u8>, head: Head, end: &[u8]) -> Result<(), NoMemory>
 fn push_item<A: Arch>(
     arch: &A,
     out: &mut Vec<u8>,
-    tags: &Tags<'_>,
+    names: Names<'_>,
     item: &Instr,
     note: &Note,
     end: &[u8],
 ) -> Result<(), NoMemory>
-    requires { IsValid A.language.isa item.now }
+    requires valid { IsValid A.language.isa item.now }
+    requires named { IsNamed (pairs names.symbols.now) item.now }
     ensures { OnOk result (out.new.items ≡ out.old.items ++ item_line end.now
-        (spec.entry A.language.printed (tag_names tags.now) item.now (note_value note.now))) }
+        (spec.entry (A.language.printed (pairs names.entry.symbols.now))
+        (tag_names names.entry.tags.now) item.now (note_value note.now))) }
 {
     append(out, b"        ")?;
-    arch.print_form(item, out)?;
+    arch.print_form(item, names.symbols, out)?;
     append(out, b" // @slothy:")?;
-    push_note(out, tags, note, item)?;
+    push_note(out, names.tags, note, item)?;
     append(out, end)
 }
 
@@ -62,15 +74,16 @@ fn push_item<A: Arch>(
 fn push_items<A: Arch>(
     arch: &A,
     out: &mut Vec<u8>,
-    tags: &Tags<'_>,
+    names: Names<'_>,
     items: &[Instr],
     notes: &[Note],
     end: &[u8],
 ) -> Result<(), NoMemory>
-    requires { AreValid A.language.isa items.now }
+    requires valid { AreValid A.language.isa items.now }
+    requires named { AreNamed (pairs names.symbols.now) items.now }
     ensures { OnOk result (out.new.items ≡ out.old.items ++ item_lines end.now
-        (spec.entries A.language.printed (tag_names tags.now) items.now
-        (map note_value notes.now))) }
+        (spec.entries (A.language.printed (pairs names.entry.symbols.now))
+        (tag_names names.entry.tags.now) items.now (map note_value notes.now))) }
 {
     let Some((item, items)) = items.split_first() else {
         return Ok(());
@@ -78,12 +91,13 @@ fn push_items<A: Arch>(
     let Some((note, notes)) = notes.split_first() else {
         return Ok(());
     };
-    push_item(arch, out, tags, item, note, end)?;
-    push_items(arch, out, tags, items, notes, end)
+    push_item(arch, out, names, item, note, end)?;
+    push_items(arch, out, names, items, notes, end)
 }
 
 /// The written file: what stands before a region, other instructions in its place, with what a
-/// plan says of them, and what stands behind it. Their tags are those of the region.
+/// plan says of them, and what stands behind it. Their tags and symbolic registers have the names
+/// that they have in the region.
 #[tactic(auto, unfolding(crate::specs::Printed::region_text))]
 pub fn written_text<A: Arch>(
     arch: &A,
@@ -92,7 +106,8 @@ pub fn written_text<A: Arch>(
     items: &[Instr],
     plan: &Plan,
 ) -> Result<Vec<u8>, NoMemory>
-    requires { AreValid A.language.isa items.now }
+    requires valid { AreValid A.language.isa items.now }
+    requires named { AreNamed (pairs old.now.symbols) items.now }
     ensures { IfOk result (λ text. text.items
         ≡ spec.written_text A.language.printed (region_of old.now) items.now
         (plan_value plan.now)) }
@@ -101,7 +116,11 @@ pub fn written_text<A: Arch>(
     let mut text = Vec::new(alloc);
     append(&mut text, old.cut.before.as_bytes())?;
     push_head(&mut text, plan.head, end)?;
-    push_items(arch, &mut text, &old.tags, items, plan.notes.list(), end)?;
+    let names = Names {
+        symbols: &old.symbols,
+        tags: &old.tags,
+    };
+    push_items(arch, &mut text, names, items, plan.notes.list(), end)?;
     append(&mut text, old.cut.after.as_bytes())?;
     Ok(text)
 }

@@ -5,6 +5,10 @@ pub mod LastOnes
 pub mod Ascii
 pub mod Mapped
 pub mod Steps
+pub mod Answered
 pub mod Pushed
+pub mod RightNotes
+pub mod Marks
+pub mod Writers
 pub mod Kept
 pub mod ForCallers

@@ -1,20 +1,13 @@
 -- What holds of the items of a region stays true where one more is read, and where the last one is marked.
-use Rattle.std.proofs.Common.{◌≡◌, ℕ, zero, suc, ◌+◌, ◌<◌, ◌≤◌, Bool, true, false, is_some, List, [], ◌∷◌, ◌++◌, length, reverse, slice_get, length-append, Option, None, Some, refl, sym, ap, ◌∙◌, subst, true≢false, ⊎_elim, arith}
-use Rattle.std.specs.List.{list_any}
-use Rattle.std.proofs.Math.ListN.{length-reverse}
-use Rattle.std.proofs.lemmas.List.{reverse-append}
-use Rattle.std.proofs.lemmas.Bool.{cases_lt, or_parts}
-use Rattle.sl_model.specs.declared.register.Reg.{Reg}
+use Rattle.std.proofs.Common.{◌≡◌, ℕ, zero, suc, ◌<◌, List, [], ◌∷◌, ◌++◌, length, length-append, refl, subst, ◌∙◌, arith}
 use Rattle.sl_model.specs.declared.instruction.Instr.{Instr}
-use Rattle.sl_model.specs.declared.schedule.Source.TheVariants.{Item}
-use Rattle.sl_model.specs.Source.{outputs, item_at, place_from, output_or, source_of, last_source}
+use Rattle.sl_model.specs.Source.{item_at}
 use Rattle.sl_model.specs.Isa.{Isa}
 use Rattle.sl_model.specs.Lawful.{IsValid, AreValid}
-use Rattle.sl_isa.specs.Language.{Reads}
-use Rattle.sl_laws.proofs.Registers.{same_reg-refl, place_from-at, place_from-none, place_from-differ}
-use Rattle.sl_laws.proofs.Elements.{list_any-at}
-use Rattle.asm_reader.specs.Reading as read
-use Rattle.asm_reader.specs.Regions.{WasRead, AreRead, AreLast}
+use Rattle.sl_isa.specs.Language.{Language, IsLanguage, IsNamed, IsSpelled, unmarked, AreSpelled}
+use Rattle.sl_isa.specs.Symbols.{Pair}
+use Rattle.sl_isa.proofs.ForCallers.{have_pairs-longer}
+use Rattle.asm_reader.specs.Regions.{AreNamed}
 
 -- an item that no other one stands behind, and one before it
 item-before : (items : List Instr) (i : Instr) (p : ℕ) → p < length items → item_at (items ++ i ∷ []) p ≡ item_at items p
@@ -26,74 +19,30 @@ item-last : (items : List Instr) (i : Instr) → item_at (items ++ i ∷ []) (le
 item-last [] i = refl
 item-last (x ∷ items) i = item-last items i
 
--- what stands in a register after one more item
-last-push : (items : List Instr) (i : Instr) (r : Reg) → last_source (items ++ i ∷ []) r ≡ output_or (length items) (place_from 0 r (outputs i)) (last_source items r)
-unfolding source_of
-last-push items i r =
-    ap (source_of r) (reverse-append items (i ∷ []))
-    ∙ ap (λ n. output_or n (place_from 0 r (outputs i)) (source_of r (reverse items))) (length-reverse items)
+-- one more item that words spell
+pub are_spelled-push : (language : Language) (pairs : List Pair) (items : List Instr) (i : Instr) → AreSpelled language pairs items → IsSpelled language pairs i → AreSpelled language pairs (items ++ i ∷ [])
+are_spelled-push language pairs [] i all is = (is, tt)
+are_spelled-push language pairs (x ∷ items) i all is = (all.0, are_spelled-push language pairs items i all.1 is)
 
--- a test of any item that fails, fails at each
-none-at : (p : Instr → Bool) (items : List Instr) (k : ℕ) → list_any p items ≡ false → k < length items → p (item_at items k) ≡ false
-none-at p [] k none within = absurd (omega arith)
-none-at p (i ∷ items) zero none within = (or_parts (p i) (list_any p items) none).0
-none-at p (i ∷ items) (suc k) none within = none-at p items k (or_parts (p i) (list_any p items) none).1 (omega arith)
+-- with more names they are spelled by the same words
+pub are_spelled-more : (language : Language) (pairs more : List Pair) (items : List Instr) → IsLanguage language → AreSpelled language pairs items → AreSpelled language (pairs ++ more) items
+are_spelled-more language pairs more [] lawful all = tt
+are_spelled-more language pairs more (i ∷ items) lawful all = (
+  record {
+    words = all.0.words;
+    known = have_pairs-longer (language.pairs_in all.0.words) pairs more all.0.known;
+    read = lawful.more pairs more all.0.words all.0.known ∙ all.0.read;
+  },
+  are_spelled-more language pairs more items lawful all.1,
+)
 
--- a register that stands among some is found
-found : (r : Reg) (regs : List Reg) (place : ℕ) → slice_get regs place ≡ Some r → is_some (place_from 0 r regs) ≡ true
-found r regs place at = of (place_from 0 r regs) refl
-  where
-    of : (o : Option ℕ) → place_from 0 r regs ≡ o → is_some o ≡ true
-    of (Some k) e = refl
-    of None e = absurd (true≢false (sym (same_reg-refl r) ∙ place_from-none 0 r regs place r e at))
-
--- an item that writes no register of those before it keeps what is last in each that they write
-last-kept : (items : List Instr) (i : Instr) (p place : ℕ) (r : Reg) → read.writes_again items i ≡ false → p < length items → slice_get (outputs (item_at items p)) place ≡ Some r → last_source (items ++ i ∷ []) r ≡ last_source items r
-last-kept items i p place r anew within at =
-    last-push items i r ∙ ap (λ o. output_or (length items) o (last_source items r)) (of (place_from 0 r (outputs i)) refl)
-  where
-    of : (o : Option ℕ) → place_from 0 r (outputs i) ≡ o → o ≡ None
-    of None e = refl
-    of (Some k) e =
-        let there = place_from-at 0 r (outputs i) k e in
-        let none : list_any (read.writes r) items ≡ false = list_any-at (λ q. list_any (read.writes q) items) (outputs i) there.0 r anew there.2 in
-        absurd (true≢false (sym (found r (outputs (item_at items p)) place at) ∙ none-at (read.writes r) items p none within))
-
--- and is last in its own registers
-last-own : (isa : Isa) (items : List Instr) (i : Instr) (place : ℕ) (r : Reg) → IsValid isa i → slice_get (outputs i) place ≡ Some r → last_source (items ++ i ∷ []) r ≡ Item (length items) place
-last-own isa items i place r valid at =
-    let same : 0 + place ≡ place = omega arith in
-    last-push items i r
-    ∙ ap (λ o. output_or (length items) o (last_source items r)) (place_from-differ 0 r (outputs i) place valid.distinct at)
-    ∙ ap (λ n. Item (length items) n) same
-
-pub are_last-push : (isa : Isa) (items : List Instr) (i : Instr) → IsValid isa i → read.writes_again items i ≡ false → AreLast items → AreLast (items ++ i ∷ [])
-are_last-push isa items i valid anew last p place r within at =
-    ⊎_elim
-    (λ (before : p < length items).
-    let there : slice_get (outputs (item_at items p)) place ≡ Some r = ap (λ j. slice_get (outputs j) place) (sym (item-before items i p before)) ∙ at in
-    last-kept items i p place r anew before there ∙ last p place r before there)
-    (λ (past : length items ≤ p).
-    let here : length items ≡ p = omega (arith, length-append items (i ∷ [])) in
-    let there : slice_get (outputs i) place ≡ Some r =
-    ap (λ j. slice_get (outputs j) place) (sym (item-last items i)) ∙ ap (λ q. slice_get (outputs (item_at (items ++ i ∷ []) q)) place) here ∙ at in
-    last-own isa items i place r valid there ∙ ap (λ q. Item q place) here)
-    (cases_lt p (length items))
-
--- one more item of the set
-pub are_valid-push : (isa : Isa) (items : List Instr) (i : Instr) → AreValid isa items → IsValid isa i → AreValid isa (items ++ i ∷ [])
-are_valid-push isa items i all valid p within =
-    ⊎_elim
-    (λ (before : p < length items). subst (IsValid isa) (sym (item-before items i p before)) (all p before))
-    (λ (past : length items ≤ p).
-    let here : length items ≡ p = omega (arith, length-append items (i ∷ [])) in
-    subst (λ q. IsValid isa (item_at (items ++ i ∷ []) q)) here (subst (IsValid isa) (sym (item-last items i)) valid))
-    (cases_lt p (length items))
-
--- one more item that was read
-pub are_read-push : (reads : Reads) (items : List Instr) (i : Instr) → AreRead reads items → WasRead reads i → AreRead reads (items ++ i ∷ [])
-are_read-push reads [] i all was = (was, tt)
-are_read-push reads (x ∷ items) i all was = (all.0, are_read-push reads items i all.1 was)
+-- and their registers are named
+pub are_named : (language : Language) (pairs : List Pair) (items : List Instr) → IsLanguage language → AreSpelled language pairs items → AreNamed pairs items
+are_named language pairs [] lawful all p within = absurd (omega arith)
+are_named language pairs (i ∷ items) lawful all zero within =
+    let named : IsNamed pairs (unmarked i) = (lawful.read pairs all.0.words (unmarked i) all.0.known all.0.read).named in
+    record { operands_named = named.operands_named; outputs_named = named.outputs_named }
+are_named language pairs (i ∷ items) lawful all (suc p) within = are_named language pairs items lawful all.1 p (omega arith)
 
 -- ---- the last item, changed
 
@@ -107,21 +56,8 @@ are_valid-parts isa items i all = (
       subst (IsValid isa) (item-last items i) (all (length items) inner),
 )
 
-pub are_read-parts : (reads : Reads) (items : List Instr) (i : Instr) → AreRead reads (items ++ i ∷ []) → AreRead reads items × WasRead reads i
-are_read-parts reads [] i all = (tt, all.0)
-are_read-parts reads (x ∷ items) i all =
-    let rest = are_read-parts reads items i all.1 in
+pub are_spelled-parts : (language : Language) (pairs : List Pair) (items : List Instr) (i : Instr) → AreSpelled language pairs (items ++ i ∷ []) → AreSpelled language pairs items × IsSpelled language pairs i
+are_spelled-parts language pairs [] i all = (tt, all.0)
+are_spelled-parts language pairs (x ∷ items) i all =
+    let rest = are_spelled-parts language pairs items i all.1 in
     ((all.0, rest.0), rest.1)
-
--- another last item with the same outputs changes nothing of what is last in a register
-outputs-at : (items : List Instr) (i j : Instr) (p : ℕ) → outputs j ≡ outputs i → outputs (item_at (items ++ j ∷ []) p) ≡ outputs (item_at (items ++ i ∷ []) p)
-outputs-at [] i j zero same = same
-outputs-at [] i j (suc p) same = refl
-outputs-at (x ∷ items) i j zero same = refl
-outputs-at (x ∷ items) i j (suc p) same = outputs-at items i j p same
-
-pub are_last-other : (items : List Instr) (i j : Instr) → outputs j ≡ outputs i → AreLast (items ++ i ∷ []) → AreLast (items ++ j ∷ [])
-are_last-other items i j same last p place r within at =
-    let inner : p < length (items ++ i ∷ []) = omega (arith, length-append items (i ∷ []), length-append items (j ∷ [])) in
-    last-push items j r ∙ ap (λ regs. output_or (length items) (place_from 0 r regs) (last_source items r)) same ∙ sym (last-push items i r)
-    ∙ last p place r inner (ap (λ regs. slice_get regs place) (sym (outputs-at items i j p same)) ∙ at)

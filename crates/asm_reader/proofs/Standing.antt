@@ -3,7 +3,7 @@ use Rattle.std.proofs.Common.{◌≡◌, ℕ, ◌+◌, ◌-◌, ◌<◌, ◌≤�
 use Rattle.std.proofs.Math.Seq.{drop-cons}
 use Rattle.std.proofs.lemmas.List.{take_rest}
 use Rattle.asm_reader.specs.Statements.{begins_with}
-use Rattle.asm_reader.specs.Reading.{stands_in}
+use Rattle.asm_reader.specs.Before.{stands_in}
 
 -- what stands from a place on
 stands-from : (word text : List ℕ) (place : ℕ) → place < length text → stands_in word (drop place text) ≡ (begins_with word (drop place text) || stands_in word (drop (place + 1) text))

@@ -3,7 +3,7 @@ use Rattle.std.proofs.Common.{◌≡◌, ℕ, Bool, true, false, cond, List, [],
 use Rattle.sl_model.specs.declared.text.Comments.{Comments}
 use Rattle.sl_model.specs.Text.{whole_lines}
 use Rattle.sl_model.specs.Token.{tokens, open_behind}
-use Rattle.asm_reader.specs.Reading.{open_after, holds_unbuilt, first_unbuilt}
+use Rattle.asm_reader.specs.Before.{open_after, holds_unbuilt, first_unbuilt}
 
 -- no lines are left of no text
 pub no_lines : (text : List ℕ) → text ≡ [] → whole_lines text ≡ []

@@ -1,10 +1,13 @@
 -- What was read of a region, as the definitions see it.
-use Rattle.std.specs.Prelude.{◌≡◌, map, Result, Ok, Err}
+use Rattle.std.specs.Prelude.{◌≡◌, ◌≤◌, ◌*◌, length, map, Result, Ok, Err}
 use Rattle.sl_model.specs.Answers.{Refuses}
+use Rattle.sl_isa.specs.SymbolViews.{pairs}
 use Rattle.asm_reader.specs.declared.draft.Draft as code
 use Rattle.asm_reader.specs.declared.reasons.Refusal.{Refusal}
 use Rattle.asm_reader.specs.declared.reasons.ReadRefusal.{ReadRefusal}
-use Rattle.asm_reader.specs.Reading.{Draft}
+use Rattle.asm_reader.specs.declared.progress.Progress as progress
+use Rattle.asm_reader.specs.Drafts.{Draft}
+use Rattle.asm_reader.specs.Reading.{Progress}
 use Rattle.asm_reader.specs.NoteViews.{note_value}
 use Rattle.asm_reader.specs.TagViews.{tag_names}
 use Rattle.asm_reader.specs.Views.{refusal_of}
@@ -19,7 +22,16 @@ draft_value draft = record {
   awaiting = draft.awaiting;
 }
 
--- What a function left in a draft is the answer of a definition, unless it failed.
-abbrev pub Leaves : {X : Type 0} → Result X ReadRefusal → Draft → Result Draft Refusal → Type 0
-Leaves (Ok x) draft answer = answer ≡ Ok draft
-Leaves (Err failure) draft answer = Refuses (refusal_of failure) answer
+-- a draft with the names of symbolic registers
+abbrev pub progress_value : progress.Progress → Progress
+progress_value read =
+    record { draft = draft_value read.draft; pairs = pairs read.symbols }
+
+-- What a function left behind is the answer of a definition, unless it failed.
+abbrev pub Leaves : {X Y : Type 0} → Result X ReadRefusal → Y → Result Y Refusal → Type 0
+Leaves (Ok x) left answer = answer ≡ Ok left
+Leaves (Err failure) left answer = Refuses (refusal_of failure) answer
+
+-- There were at most as many symbolic registers as instructions can name, seven each.
+abbrev pub HasFewNames : progress.Progress → Type 0
+HasFewNames read = length (pairs read.symbols) ≤ 7 * length read.draft.items.items

@@ -1,6 +1,9 @@
 pub mod Statements
 pub mod Notes
 pub mod Tags
+pub mod Before
+pub mod Unset
+pub mod Drafts
 pub mod Reading
 pub mod Regions
 pub mod Views

@@ -1,34 +1,28 @@
 -- What holds of every region that is read.
-use Rattle.std.specs.Prelude.{ℕ, ◌<◌, ◌≤◌, ◌≡◌, ◌&&◌, Bool, true, not, nat_lt, List, [], ◌∷◌, length, slice_get, Option, None, Some, Ok}
+use Rattle.std.specs.Prelude.{ℕ, ◌<◌, ◌≤◌, ◌≡◌, ◌&&◌, Bool, true, false, not, nat_lt, List, [], ◌∷◌, length, slice_get, Option, None, Some}
 use Rattle.std.specs.List.{list_all}
 use Rattle.sl_model.specs.declared.register.Reg.{Reg}
 use Rattle.sl_model.specs.declared.instruction.Instr.{Instr}
-use Rattle.sl_model.specs.declared.schedule.Source.TheVariants.{Item}
+use Rattle.sl_model.specs.declared.schedule.Source.TheVariants.{Entry}
 use Rattle.sl_model.specs.Exec.{has_access}
 use Rattle.sl_model.specs.Isa.{Isa}
 use Rattle.sl_model.specs.Lawful.{AreValid}
-use Rattle.sl_model.specs.Source.{outputs, item_at, last_source}
-use Rattle.sl_model.specs.Token.{Lexeme}
-use Rattle.sl_isa.specs.Language.{Reads, Language, unmarked}
+use Rattle.sl_model.specs.Source.{item_at, list_sources}
+use Rattle.sl_isa.specs.Language.{Language, IsNamed, AreSpelled}
+use Rattle.sl_isa.specs.Symbols.{Pair}
 use Rattle.asm_reader.specs.declared.reasons.Wants.{Wants}
 use Rattle.asm_reader.specs.Notes.{NoteValue, is_tag, is_unit}
 use Rattle.asm_reader.specs.Reading.{Region}
 
--- An instruction was read from words, its line, tag and marks aside.
-pub record WasRead (reads : Reads) (i : Instr) : Type 0 where
-  pub words : List Lexeme
-  pub read : reads words ≡ Ok (unmarked i)
+-- Each register of each item of a list is the machine's, or has the number of a pair of its bank.
+abbrev pub AreNamed : List Pair → List Instr → Type 0
+AreNamed pairs items = (p : ℕ) → p < length items → IsNamed pairs (item_at items p)
 
--- All instructions of a list were.
-abbrev pub AreRead : Reads → List Instr → Type 0
-AreRead reads [] = Unit {0}
-AreRead reads (i ∷ items) = WasRead reads i × AreRead reads items
-
--- Each output of each item of a list is the last one in its register.
-abbrev pub AreLast : List Instr → Type 0
-AreLast items =
+-- No item of a list reads what a symbolic register held before the first one.
+abbrev pub AreSet : List Instr → Type 0
+AreSet items =
     (p place : ℕ) (r : Reg) → p < length items
-    → slice_get (outputs (item_at items p)) place ≡ Some r → last_source items r ≡ Item p place
+    → slice_get (list_sources items p) place ≡ Some (Entry r) → r.symbolic ≡ false
 
 -- Is there no tag, or one of so many, of an instruction that accesses memory?
 abbrev pub is_right_tag : Bool → ℕ → Option ℕ → Bool
@@ -45,14 +39,15 @@ abbrev pub is_right_unit : Option (List ℕ) → Bool
 is_right_unit None = true
 is_right_unit (Some unit) = is_unit unit
 
--- Items of a region are few enough, are instructions of the set, and were read; and where each
--- register may be written once, each output is the last one in its register. Their tags are named,
--- and there is a note for each.
+-- Items of a region are few enough, are instructions of the set, and were read. Their symbolic
+-- registers are named, and none is read before it is written. Their tags are named, and there is a
+-- note for each.
 pub record IsRegion (language : Language) (wants : Wants) (region : Region) : Type 0 where
   pub few : length region.items ≤ wants.limit
   pub valid : AreValid language.isa region.items
-  pub read : AreRead language.reads region.items
-  pub last : wants.once ≡ true → AreLast region.items
+  pub spelled : AreSpelled language region.pairs region.items
+  pub named : AreNamed region.pairs region.items
+  pub set : AreSet region.items
   pub marks : list_all (is_marked_right language.isa (length region.tags)) region.items ≡ true
   pub names : list_all is_tag region.tags ≡ true
   pub noted : length region.notes ≡ length region.items

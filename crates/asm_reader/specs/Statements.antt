@@ -136,9 +136,7 @@ abbrev pub begins_unbuilt : List Lexeme → Bool
 begins_unbuilt tokens =
     if begins_with_dot tokens then true else (if is_aliasing tokens then true else has_label tokens)
 
--- Is a statement, without its comments, one that isn't read yet: a directive, a label, a branch, or
--- one with a symbolic register?
+-- Is a statement, without its comments, one that isn't read yet: a directive, a label or a branch?
 abbrev pub is_unbuilt : List Lexeme → Bool
 is_unbuilt tokens =
-    if begins_unbuilt tokens then true
-    else (if is_branch (mnemonic tokens) then true else list_any (marks 60) tokens)
+    if begins_unbuilt tokens then true else is_branch (mnemonic tokens)

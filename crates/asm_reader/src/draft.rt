@@ -30,14 +30,14 @@ pub(crate) struct Draft<'a> {
     /// The last instruction, as long as no note was said of it.
     pub awaiting: Option<Awaiting>,
     ghost named: { length tags.names.items + (if is_some awaiting then 1 else 0) ≤ length items.items },
-    ghost few: { length items.items < 65536 },
+    ghost few: { length items.items ≤ 8192 },
 }
 
 impl<'a> Draft<'a> {
     ghost use Rattle.std.specs.Prelude.{◌≡◌, true, OnOk, Some};
     ghost use Rattle.asm_reader.specs.DraftViews.{draft_value};
     ghost use Rattle.asm_reader.specs.NoteViews.{remark_value, one_said};
-    ghost use Rattle.asm_reader.specs.Reading.{no_draft, longer, with_remark, with_said, has_place};
+    ghost use Rattle.asm_reader.specs.Drafts.{no_draft, longer, with_remark, with_said, has_place};
 
     /// Nothing was read yet.
     pub fn new(alloc: Global) -> Draft<'a>
@@ -54,7 +54,7 @@ impl<'a> Draft<'a> {
 
     /// Adds an instruction that was read on a line.
     pub fn push(&mut self, accesses: bool, line: u32, item: Instr) -> Result<(), AllocError>
-        requires { length self.old.items.items < 65535 }
+        requires { length self.old.items.items < 8192 }
         ensures { OnOk result
             (draft_value self.new ≡ longer accesses line (draft_value self.old) item) }
     {

@@ -1,6 +1,6 @@
 //! The last instruction of a list, and the last note.
 ghost use Rattle.std.specs.Prelude.{◌≡◌, map};
-ghost use Rattle.asm_reader.specs.Reading.{with_last};
+ghost use Rattle.asm_reader.specs.Drafts.{with_last};
 
 use crate::note::Note;
 use sl_isa::Instr;

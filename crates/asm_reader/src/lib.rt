@@ -5,12 +5,14 @@ mod draft;
 mod last;
 mod lines;
 pub mod note;
+mod progress;
 mod reading;
 pub mod reasons;
 pub mod region;
 mod statements;
 pub mod tags;
 pub mod unit_name;
+mod unset;
 mod words;
 
 pub use note::{Note, Notes};

@@ -1,18 +1,20 @@
 //! The statements of lines, one after the other.
-ghost use Rattle.std.specs.Prelude.{◌≡◌, ◌<◌, ◌^◌, false, length, IfOk};
+ghost use Rattle.std.specs.Prelude.{◌≡◌, ◌<◌, ◌^◌, false, length, IfOk, OnOk};
 ghost use Rattle.sl_model.specs.Text.{whole_lines, numbered_lines};
 ghost use Rattle.sl_model.specs.Token.{tokens as line_tokens, open_behind};
 ghost use Rattle.sl_model.specs.Answers.{Gives};
-ghost use Rattle.asm_reader.specs.DraftViews.{draft_value, Leaves};
+ghost use Rattle.asm_reader.specs.DraftViews.{HasFewNames, Leaves, progress_value};
 ghost use Rattle.asm_reader.specs.Statements.{on_line, outside, statements_of};
 ghost use Rattle.asm_reader.specs.Views.{lexemes, refusal_of};
+ghost use Rattle.asm_reader.specs.Before.{open_after};
 ghost use Rattle.asm_reader.specs.Reading as spec;
 
 use crate::draft::Draft;
+use crate::progress::Progress;
 use crate::reading::{Manner, push_statement};
 use crate::reasons::ReadRefusal;
 use crate::statements::{Statement, first_statement, outside};
-use sl_isa::Arch;
+use sl_isa::{Arch, Symbols};
 use sl_text::{Comments, Line, Token, lines, split_line, tokens, without_end};
 use std::alloc::AllocError;
 
@@ -22,16 +24,18 @@ fn push_statements<'a, A: Arch>(
     manner: Manner,
     line: u32,
     tokens: &[Token<'a>],
-    draft: &mut Draft<'a>,
+    read: &mut Progress<'a>,
 ) -> Result<(), ReadRefusal>
-    ensures { Leaves result (draft_value draft.new)
-        (spec.with_statements A.language manner.wants (draft_value draft.old)
+    requires { HasFewNames read.old }
+    ensures answer { Leaves result (progress_value read.new)
+        (spec.with_statements A.language manner.wants (progress_value read.old)
         (on_line line (lexemes tokens.now))) }
+    ensures few { OnOk result (HasFewNames read.new) }
 {
     let mut rest = Some(tokens);
     while let Some(left) = rest {
         let (tokens, behind) = first_statement(left);
-        push_statement(arch, manner, Statement { line, tokens }, draft)?;
+        push_statement(arch, manner, Statement { line, tokens }, read)?;
         rest = behind;
     }
     Ok(())
@@ -75,54 +79,59 @@ fn push_line<'a, A: Arch>(
     manner: Manner,
     line: Line<'a>,
     inside: bool,
-    draft: &mut Draft<'a>,
+    read: &mut Progress<'a>,
 ) -> Result<bool, ReadRefusal>
-    requires { length line.text.now < 2 ^ 31 }
-    ensures draft { Leaves result (draft_value draft.new)
-        (spec.with_statements A.language manner.wants (draft_value draft.old)
+    requires text { length line.text.now < 2 ^ 31 }
+    requires few { HasFewNames read.old }
+    ensures answer { Leaves result (progress_value read.new)
+        (spec.with_statements A.language manner.wants (progress_value read.old)
         (on_line line.entry.number
         (outside inside (line_tokens manner.comments inside line.entry.text.now)))) }
+    ensures few { OnOk result (HasFewNames read.new) }
     ensures unclosed { IfOk result
         (λ unclosed. unclosed
         ≡ open_behind inside (line_tokens manner.comments inside line.entry.text.now)) }
 {
     let (tokens, unclosed) = tokens_of(manner, line, inside)?;
-    push_statements(arch, manner, line.number, outside(inside, &tokens), draft)?;
+    push_statements(arch, manner, line.number, outside(inside, &tokens), read)?;
     Ok(unclosed)
 }
 
 /// What is read of the lines of a text, whose first line has this number; `inside` says that a
 /// block comment is open before it.
-pub(crate) fn draft_of<'a, A: Arch>(
+pub(crate) fn read_lines<'a, A: Arch>(
     arch: &A,
     manner: Manner,
     text: &'a str,
     first: u32,
     inside: bool,
-) -> Result<Draft<'a>, ReadRefusal>
+) -> Result<Progress<'a>, ReadRefusal>
     requires text { length text.now < 2 ^ 31 }
     requires first { first < 2 ^ 31 }
-    ensures { Gives refusal_of draft_value result
-        (spec.with_statements A.language manner.wants spec.no_draft
+    ensures { Gives refusal_of progress_value result
+        (spec.with_statements A.language manner.wants spec.no_progress
         (statements_of manner.comments inside first (whole_lines text.now))) }
 {
-    let mut draft = Draft::new(manner.alloc);
+    let mut read = Progress {
+        draft: Draft::new(manner.alloc),
+        symbols: Symbols::new(manner.alloc),
+    };
     let mut unclosed = inside;
     let mut rest = text;
     let mut number = first;
     while let Some((line, below)) = split_line(rest) {
         let text = without_end(line);
-        unclosed = push_line(arch, manner, Line { number, text }, unclosed, &mut draft)?;
+        unclosed = push_line(arch, manner, Line { number, text }, unclosed, &mut read)?;
         number += 1;
         rest = below;
     }
-    Ok(draft)
+    Ok(read)
 }
 
 /// Is a block comment open behind a text?
 pub(crate) fn is_open_after(comments: Comments, text: &str) -> bool
     requires { length text.now < 2 ^ 31 }
-    ensures { result ≡ spec.open_after comments false (numbered_lines 1 text.now) }
+    ensures { result ≡ open_after comments false (numbered_lines 1 text.now) }
 {
     let mut unclosed = false;
     for line in lines(text, 1) {

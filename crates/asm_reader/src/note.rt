@@ -3,7 +3,7 @@ ghost use Rattle.std.specs.Prelude.{◌≡◌, ◌≤◌, IfOk, IfSome, MatchOpt
 ghost use Rattle.asm_reader.specs.WordViews.{bytes_value, word_value, word_values};
 ghost use Rattle.asm_reader.specs.UnitViews.{unit_text};
 ghost use Rattle.asm_reader.specs.NoteViews.{note_value, remark_value, said_value};
-ghost use Rattle.asm_reader.specs.Reading.{untold};
+ghost use Rattle.asm_reader.specs.Drafts.{untold};
 ghost use Rattle.asm_reader.specs.Notes as spec;
 
 use crate::unit_name::UnitName;

@@ -1,22 +1,25 @@
 //! Reading a statement, and adding it to a draft.
-ghost use Rattle.std.specs.Prelude.{◌≡◌, ◌<◌, ◌≤◌, true, length, IfOk, IfSome, OnOk, Result};
-ghost use Rattle.std.specs.List.{filter_map, list_any};
+ghost use Rattle.std.specs.Prelude.{◌≡◌, ◌+◌, ◌<◌, ◌≤◌, true, length, is_some, if◌then◌else◌, IfOk, IfSome, OnOk, Result};
 ghost use Rattle.sl_model.specs.declared.instruction.Instr.{Instr as InstrValue};
 ghost use Rattle.sl_model.specs.Answers.{Gives, Refuses};
 ghost use Rattle.sl_model.specs.Exec.{has_access};
 ghost use Rattle.sl_model.specs.Lawful.{IsValid};
 ghost use Rattle.sl_isa.specs.Arch.{reason_of};
+ghost use Rattle.sl_isa.specs.SymbolViews.{pairs};
 ghost use Rattle.sl_isa.specs.declared.reasons.FormReason.{FormReason as FormReasonValue};
-ghost use Rattle.asm_reader.specs.DraftViews.{draft_value, Leaves};
+ghost use Rattle.asm_reader.specs.DraftViews.{HasFewNames, Leaves, draft_value, progress_value};
 ghost use Rattle.asm_reader.specs.NoteViews.{said_value};
+ghost use Rattle.asm_reader.specs.Drafts as drafts;
 ghost use Rattle.asm_reader.specs.Reading as spec;
 ghost use Rattle.asm_reader.specs.Views.{lexemes, statement_value, refusal_of};
 
 use crate::draft::{Awaiting, Draft};
 use crate::note::{Said, note_said};
+use crate::progress::Progress;
 use crate::reasons::{ReadRefusal, Reason, Refusal, Wants};
 use crate::statements::{Statement, is_unbuilt, note_text, words_of};
-use sl_isa::{Arch, FormErr, FormReason, Instr, Reg, place_of};
+use sl_isa::{Arch, FormErr, FormReason, Instr, Symbols};
+use sl_model::limits::READ_ITEMS;
 use sl_text::{Comments, Token};
 use std::alloc::{AllocError, Global};
 
@@ -31,21 +34,16 @@ pub(crate) struct Manner {
     pub wants: Wants,
 }
 
-// Does one of some items write a register?
-fn is_written(items: &[Instr], reg: Reg) -> bool
-    ensures { result ≡ list_any (spec.writes reg) items.now }
+// The most items of a region.
+fn most_items(wants: Wants) -> u16
+    ensures most { result ≡ drafts.most_items wants }
+    ensures few { result ≤ 8192 }
 {
-    items.iter().any(|item| place_of(item, reg).is_some())
-}
-
-// Is one of some registers written by one of some items?
-fn is_any_written(items: &[Instr], regs: &[Option<Reg>]) -> bool
-    ensures { result ≡ list_any (λ r. list_any (spec.writes r) items.now)
-        (filter_map (λ r. r) regs.now) }
-{
-    regs.iter()
-        .filter_map(|reg| *reg)
-        .any(|reg| is_written(items, reg))
+    if usize::from(wants.limit) < READ_ITEMS {
+        wants.limit
+    } else {
+        READ_ITEMS as u16
+    }
 }
 
 // Adds an item that was read on a line.
@@ -57,14 +55,11 @@ fn push_item(
     item: Instr,
 ) -> Result<(), ReadRefusal>
     ensures { Leaves result (draft_value draft.new)
-        (spec.with_item wants accesses line (draft_value draft.old) item) }
+        (drafts.with_item wants accesses line (draft_value draft.old) item) }
 {
-    if draft.items.len() >= usize::from(wants.limit) {
-        let reason = Reason::TooMany(wants.limit);
-        return Err(ReadRefusal::Refused(Refusal { line, reason }));
-    }
-    if wants.once && is_any_written(&draft.items, &item.outs) {
-        let reason = Reason::NotYet;
+    let most = most_items(wants);
+    if draft.items.len() >= usize::from(most) {
+        let reason = Reason::TooMany(most);
         return Err(ReadRefusal::Refused(Refusal { line, reason }));
     }
     draft.push(accesses, line, item)?;
@@ -103,21 +98,27 @@ fn words_refusal(alloc: Global, line: u32, words: &[Token<'_>], error: FormErr) 
     }
 }
 
-// The instruction of the words of a statement, if it has words.
+// The instruction of the words of a statement, if it has words. Names that are new are added.
 fn read_instr<A: Arch>(
     arch: &A,
     alloc: Global,
     line: u32,
     words: &[Token<'_>],
+    symbols: &mut Symbols,
 ) -> Result<Option<Instr>, ReadRefusal>
+    requires { length (pairs symbols.old) ≤ 65529 }
     ensures answer { Gives refusal_of (λ instr. instr) result
-        (spec.instr_of A.language.reads line (lexemes words.now)) }
+        (spec.instr_of A.language (pairs symbols.old) line (lexemes words.now)) }
     ensures valid { IfOk result (λ instr. IfSome instr (λ i. IsValid A.language.isa i)) }
+    ensures names { OnOk result (pairs symbols.new
+        ≡ spec.pairs_after A.language (pairs symbols.old) (lexemes words.now)) }
+    ensures few { IfOk result (λ instr. length (pairs symbols.new)
+        ≤ length (pairs symbols.old) + (if is_some instr then 7 else 0)) }
 {
     if words.is_empty() {
         return Ok(None);
     }
-    match arch.read_form(alloc, words) {
+    match arch.read_form(alloc, words, symbols) {
         Ok(instr) => Ok(Some(instr)),
         Err(error) => Err(words_refusal(alloc, line, words, error)),
     }
@@ -152,7 +153,7 @@ fn accesses<A: Arch>(arch: &A, instr: &Instr) -> bool
 
 // May a note say this of an instruction?
 fn may_say(accesses: bool, said: &Option<Said<'_>>) -> bool
-    ensures { result ≡ spec.may_say accesses (said_value said.now) }
+    ensures { result ≡ drafts.may_say accesses (said_value said.now) }
 {
     match said {
         Some(Said::Item(remark)) => remark.tag.is_none() || accesses,
@@ -162,7 +163,7 @@ fn may_say(accesses: bool, said: &Option<Said<'_>>) -> bool
 
 // Does the last instruction stand on a line, and may this be said of it?
 fn awaits(line: u32, said: &Option<Said<'_>>, awaiting: Option<Awaiting>) -> bool
-    ensures { result ≡ spec.awaits line (said_value said.now) awaiting }
+    ensures { result ≡ drafts.awaits line (said_value said.now) awaiting }
 {
     match awaiting {
         Some(last) => last.line == line && may_say(last.accesses, said),
@@ -172,7 +173,7 @@ fn awaits(line: u32, said: &Option<Said<'_>>, awaiting: Option<Awaiting>) -> boo
 
 // May a note stand on a line without an instruction of its statement?
 fn may_stand(line: u32, awaiting: Option<Awaiting>, said: &Option<Said<'_>>) -> bool
-    ensures { result ≡ spec.may_stand line awaiting (said_value said.now) }
+    ensures { result ≡ drafts.may_stand line awaiting (said_value said.now) }
 {
     match said {
         Some(Said::Item(_)) => awaits(line, said, awaiting),
@@ -182,9 +183,9 @@ fn may_stand(line: u32, awaiting: Option<Awaiting>, said: &Option<Said<'_>>) -> 
 
 // Adds what a note says, if there is one.
 fn push_said<'a>(draft: &mut Draft<'a>, said: &Option<Said<'a>>) -> Result<(), AllocError>
-    requires { spec.has_place (said_value said.now) (draft_value draft.old).awaiting ≡ true }
+    requires { drafts.has_place (said_value said.now) (draft_value draft.old).awaiting ≡ true }
     ensures { OnOk result
-        (draft_value draft.new ≡ spec.with_said (draft_value draft.old) (said_value said.now)) }
+        (draft_value draft.new ≡ drafts.with_said (draft_value draft.old) (said_value said.now)) }
 {
     match said {
         Some(said) => draft.say(said),
@@ -199,7 +200,7 @@ fn push_note<'a>(
     said: &Option<Said<'a>>,
 ) -> Result<(), ReadRefusal>
     ensures { Leaves result (draft_value draft.new)
-        (spec.with_note line (draft_value draft.old) (said_value said.now)) }
+        (drafts.with_note line (draft_value draft.old) (said_value said.now)) }
 {
     if !may_stand(line, draft.awaiting, said) {
         let reason = Reason::TagBad;
@@ -219,7 +220,7 @@ fn push_noted<'a>(
     item: Instr,
 ) -> Result<(), ReadRefusal>
     ensures { Leaves result (draft_value draft.new)
-        (spec.with_noted wants accesses line (draft_value draft.old) (said_value said.now) item) }
+        (drafts.with_noted wants accesses line (draft_value draft.old) (said_value said.now) item) }
 {
     if !may_say(accesses, said) {
         let reason = Reason::TagBad;
@@ -230,27 +231,45 @@ fn push_noted<'a>(
     Ok(())
 }
 
-/// Adds a statement to a draft.
+// Adds what a statement holds.
+fn push_parts<'a, A: Arch>(
+    arch: &A,
+    wants: Wants,
+    line: u32,
+    draft: &mut Draft<'a>,
+    said: &Option<Said<'a>>,
+    instr: Option<Instr>,
+) -> Result<(), ReadRefusal>
+    requires { IfSome instr (λ i. IsValid A.language.isa i) }
+    ensures { Leaves result (draft_value draft.new) (drafts.with_parts A.language.isa wants line
+        (draft_value draft.old) (said_value said.now) instr) }
+{
+    match instr {
+        Some(item) => {
+            let accesses = accesses(arch, &item);
+            push_noted(wants, accesses, line, draft, said, item)
+        }
+        None => push_note(line, draft, said),
+    }
+}
+
+/// Adds a statement to what was read.
 #[tactic(auto, unfolding(crate::specs::Reading::with_statement))]
 pub(crate) fn push_statement<'a, A: Arch>(
     arch: &A,
     manner: Manner,
     statement: Statement<'_, 'a>,
-    draft: &mut Draft<'a>,
+    read: &mut Progress<'a>,
 ) -> Result<(), ReadRefusal>
-    ensures { Leaves result (draft_value draft.new)
-        (spec.with_statement A.language manner.wants (draft_value draft.old)
+    requires { HasFewNames read.old }
+    ensures answer { Leaves result (progress_value read.new)
+        (spec.with_statement A.language manner.wants (progress_value read.old)
         (statement_value statement.entry)) }
+    ensures few { OnOk result (HasFewNames read.new) }
 {
     let line = statement.line;
     let words = words_of(manner.alloc, statement.tokens)?;
-    let instr = read_instr(arch, manner.alloc, line, &words)?;
+    let instr = read_instr(arch, manner.alloc, line, &words, &mut read.symbols)?;
     let said = said_of(manner.alloc, statement)?;
-    match instr {
-        Some(item) => {
-            let accesses = accesses(arch, &item);
-            push_noted(manner.wants, accesses, line, draft, &said, item)
-        }
-        None => push_note(line, draft, &said),
-    }
+    push_parts(arch, manner.wants, line, &mut read.draft, &said, instr)
 }

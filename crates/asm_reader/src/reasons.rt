@@ -9,10 +9,8 @@ use std::alloc::{AllocError, AllocFailed};
 /// What a caller asks of a region.
 #[derive(Clone, Copy, Debug, PartialEq, Eq)]
 pub struct Wants {
-    /// The most instructions that it may have.
+    /// The most instructions that it may have; more than `READ_ITEMS` it never has.
     pub limit: u16,
-    /// Is each register written at most once?
-    pub once: bool,
 }
 
 /// Why a region isn't read.
@@ -24,6 +22,8 @@ pub enum Reason {
     Form(FormReason),
     /// A note isn't right, or stands where it can't.
     TagBad,
+    /// A symbolic register is read, and no instruction above writes it.
+    SymbolUnset,
     /// There is something that isn't built yet.
     NotYet,
     /// There are more than so many instructions.

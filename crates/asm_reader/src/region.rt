@@ -1,22 +1,27 @@
 //! The region of a text: its instructions, or why it has none.
-ghost use Rattle.std.specs.Prelude.{◌≡◌, ◌≤◌, ◌<◌, ◌^◌, length, IfOk};
+ghost use Rattle.std.specs.Prelude.{◌≡◌, ◌≤◌, ◌<◌, ◌^◌, [], length, IfOk};
 ghost use Rattle.sl_model.specs.Text.{numbered_lines, cut};
 ghost use Rattle.sl_text.specs.Cut.{parts_of};
+ghost use Rattle.sl_isa.specs.Arch.{comments_of};
+ghost use Rattle.asm_reader.specs.declared.reasons.Reason.TheVariants.{NotYet, SymbolUnset};
 ghost use Rattle.asm_reader.specs.Reading as spec;
 ghost use Rattle.asm_reader.specs.RegionViews.{region_of};
-ghost use Rattle.asm_reader.specs.DraftViews.{draft_value};
+ghost use Rattle.asm_reader.specs.Before as before;
+ghost use Rattle.asm_reader.specs.DraftViews.{progress_value};
+ghost use Rattle.asm_reader.specs.Unset as unset;
 ghost use Rattle.asm_reader.specs.Regions.{IsRegion};
 ghost use Rattle.sl_model.specs.Answers.{Answers, Gives};
 ghost use Rattle.asm_reader.specs.Views.{refusal_of};
 
-use crate::draft::Draft;
-use crate::lines::{draft_of, is_open_after};
+use crate::lines::{is_open_after, read_lines};
 use crate::note::Notes;
+use crate::progress::Progress;
 use crate::reading::Manner;
 use crate::reasons::{ReadRefusal, Reason, Refusal, Wants};
 use crate::statements::begins_with;
 use crate::tags::Tags;
-use sl_isa::{Arch, Instr, comment_kind};
+use crate::unset::first_unset;
+use sl_isa::{Arch, Instr, Symbols, comment_kind};
 use sl_text::{Cut, CutRefusal, cut_region, lines};
 use std::alloc::Global;
 
@@ -29,6 +34,8 @@ pub struct Region<'a> {
     pub items: Vec<Instr>,
     /// The names of their tags.
     pub tags: Tags<'a>,
+    /// The names of their symbolic registers.
+    pub symbols: Symbols,
     /// A note for each instruction.
     pub notes: Notes,
     /// The mask of early items that the first note on the region says, and 0 without.
@@ -64,7 +71,7 @@ fn cut_parts<'a>(text: &'a str, start: &str, end: &str) -> Result<Cut<'a>, Refus
 
 // Does a word stand somewhere in a text, in letters of either case?
 fn stands_in(text: &[u8], word: &[u8]) -> bool
-    ensures { result ≡ spec.stands_in word.now text.now }
+    ensures { result ≡ before.stands_in word.now text.now }
 {
     for place in 0..text.len() {
         if begins_with(&text[place..], word) {
@@ -76,7 +83,7 @@ fn stands_in(text: &[u8], word: &[u8]) -> bool
 
 // Does a line hold a word of a macro or of an alias?
 fn holds_unbuilt(line: &str) -> bool
-    ensures { result ≡ spec.holds_unbuilt line.now }
+    ensures { result ≡ before.holds_unbuilt line.now }
 {
     let text = line.as_bytes();
     if stands_in(text, b".macro") {
@@ -91,7 +98,7 @@ fn holds_unbuilt(line: &str) -> bool
 // The number of the first line of a text that holds such a word.
 fn first_unbuilt(text: &str) -> Option<u32>
     requires { length text.now < 2 ^ 31 }
-    ensures { result ≡ spec.first_unbuilt (numbered_lines 1 text.now) }
+    ensures { result ≡ before.first_unbuilt (numbered_lines 1 text.now) }
 {
     for line in lines(text, 1) {
         if holds_unbuilt(line.text) {
@@ -105,7 +112,7 @@ fn first_unbuilt(text: &str) -> Option<u32>
 fn built_parts(cut: Cut<'_>) -> Result<Cut<'_>, Refusal>
     requires { length cut.before.now < 2 ^ 31 }
     ensures answer { Answers parts_of result
-        (spec.unless_at (spec.first_unbuilt (numbered_lines 1 cut.entry.before.now))
+        (spec.unless_at NotYet (before.first_unbuilt (numbered_lines 1 cut.entry.before.now))
         (parts_of cut.entry)) }
     ensures same { IfOk result (λ built. built ≡ cut.entry) }
 {
@@ -118,15 +125,52 @@ fn built_parts(cut: Cut<'_>) -> Result<Cut<'_>, Refusal>
     }
 }
 
-// The region that a draft is.
-fn region_from<'a>(cut: Cut<'a>, draft: Draft<'a>) -> Region<'a>
-    ensures { region_of result ≡ spec.region_from (parts_of cut.entry) (draft_value draft.entry) }
+// No symbolic register is read before it is written.
+fn set_progress(read: Progress<'_>) -> Result<Progress<'_>, Refusal>
+    ensures { Answers progress_value result
+        (spec.unless_at SymbolUnset (unset.first_unset [] read.entry.draft.items.items)
+        (progress_value read.entry)) }
 {
+    match first_unset(&read.draft.items) {
+        Some(line) => Err(Refusal {
+            line,
+            reason: Reason::SymbolUnset,
+        }),
+        None => Ok(read),
+    }
+}
+
+// What is read of a body whose first line has this number; `inside` says that a block comment is
+// open before it.
+#[tactic(auto, unfolding(crate::specs::Reading::body_read))]
+fn read_body<'a, A: Arch>(
+    arch: &A,
+    manner: Manner,
+    body: &'a str,
+    first: u32,
+    inside: bool,
+) -> Result<Progress<'a>, ReadRefusal>
+    requires text { length body.now < 2 ^ 31 }
+    requires first { first < 2 ^ 31 }
+    requires comments { manner.comments ≡ comments_of A.language.isa.name }
+    ensures { Gives refusal_of progress_value result
+        (spec.body_read A.language manner.wants inside first body.now) }
+{
+    let read = read_lines(arch, manner, body, first, inside)?;
+    Ok(set_progress(read)?)
+}
+
+// The region of what was read.
+fn region_from<'a>(cut: Cut<'a>, read: Progress<'a>) -> Region<'a>
+    ensures { region_of result ≡ spec.region_from (parts_of cut.entry) (progress_value read.entry) }
+{
+    let Progress { draft, symbols } = read;
     let early_mask = draft.mask.unwrap_or(0);
     Region {
         cut,
         items: draft.items,
         tags: draft.tags,
+        symbols,
         notes: Notes::new(draft.notes),
         early_mask,
     }
@@ -137,7 +181,7 @@ fn region_from<'a>(cut: Cut<'a>, draft: Draft<'a>) -> Region<'a>
 /// # Errors
 ///
 /// The first line that is refused, and why: first the markers, then what isn't built yet before the
-/// region, and then what stands in it. Where memory runs out, [`ReadRefusal::NoMemory`].
+/// region, then what stands in it, and last the symbolic registers. Where memory runs out, [`ReadRefusal::NoMemory`].
 #[tactic(auto, unfolding(crate::specs::Reading::text_region))]
 pub fn read_region<'a, A: Arch>(
     arch: &A,
@@ -161,6 +205,6 @@ pub fn read_region<'a, A: Arch>(
         comments,
         wants,
     };
-    let draft = draft_of(arch, manner, cut.body, cut.first, inside)?;
-    Ok(region_from(cut, draft))
+    let read = read_body(arch, manner, cut.body, cut.first, inside)?;
+    Ok(region_from(cut, read))
 }

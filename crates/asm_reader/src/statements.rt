@@ -1,6 +1,5 @@
 //! The statements of a line, and what is asked of one before it is read.
 ghost use Rattle.std.specs.Prelude.{◌≡◌, ◌<◌, ◌++◌, ⊤, not, [], ◌∷◌, codes, filter, length, IfOk, OnOk, MatchOption, Some};
-ghost use Rattle.std.specs.List.{list_any};
 ghost use Rattle.std.specs.Str.{str_eq_ignore_ascii_case};
 ghost use Rattle.sl_text.specs.Tokens.{token_value};
 ghost use Rattle.asm_reader.specs.Views.{lexemes};
@@ -273,13 +272,6 @@ fn begins_unbuilt(tokens: &[Token<'_>]) -> bool
     has_label(tokens)
 }
 
-// Whether a symbolic register stands in a statement.
-fn has_symbol(tokens: &[Token<'_>]) -> bool
-    ensures { result ≡ list_any (λ token. tests.marks 60 (token_value token)) tokens.now }
-{
-    tokens.iter().any(|token| token.is_mark(b'<'))
-}
-
 /// Whether a statement, without its comments, is one that isn't read yet.
 pub(crate) fn is_unbuilt(alloc: Global, tokens: &[Token<'_>]) -> Result<bool, AllocError>
     ensures { IfOk result (λ unbuilt. unbuilt ≡ spec.is_unbuilt (lexemes tokens.now)) }
@@ -288,8 +280,5 @@ pub(crate) fn is_unbuilt(alloc: Global, tokens: &[Token<'_>]) -> Result<bool, Al
         return Ok(true);
     }
     let name = mnemonic(alloc, tokens)?;
-    if is_branch(&name) {
-        return Ok(true);
-    }
-    Ok(has_symbol(tokens))
+    Ok(is_branch(&name))
 }

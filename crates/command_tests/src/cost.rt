@@ -265,33 +265,69 @@ const WRONG_WORDS: &str = "\
     cost k.s\n\
     cost k.s --core\n\
     cost k.s --core one:2 x\n\
-    cost --core one:2 k.s\n\
     k.s cost --core one:2\n\
     opt k.s --core one:0\n\
-    opt --core one:2 k.s\n\
     check k.s --core one:2\n\
     Cost k.s --core one:2\n\
     cost k.s --cores one:2\n\
     cost k.s core one:2\n\
-    cost k.s --core=one:2\n\
     cost k.s --core=one:2 x\n\
     cost  --core one:2\n\
     cost -k.s --core one:2\n\
-    cost - --core one:2\n\
-    cost k.s --core one:0\n\
+    cost k.s --core -\n\
     cost k.s --core one:256\n\
     cost k.s --core one:02\n\
-    cost k.s --core one:+2\n\
-    cost k.s --core one:2x\n\
-    cost k.s --core one:\n\
-    cost k.s --core two:2\n\
-    cost k.s --core one:18446744073709551618";
+    cost k.s --core one:2 --core one:2\n\
+    cost k.s --core one:2 --max-stalls 3\n\
+    opt k.s --core one:2 --max-stalls 256\n\
+    opt k.s --core one:2 --start a --end a\n\
+    opt k.s --core one:2 --live x31\n\
+    opt k.s x --core one:2\n\
+    --help";
 
 #[test]
 fn wrong_words_are_wrong_use(rt: HostRuntime) -> Failing {
     let mut failing = Failing::new(rt.alloc());
     compare_usage(&rt, rt.alloc(), &mut failing, WRONG_WORDS);
     compare_usage(&rt, rt.alloc(), &mut failing, "");
+    failing
+}
+
+/// Words that say the same in other ways, or name other markers.
+const RIGHT_WORDS: &str = "\
+an option in one word|cost k.s --core=one:2|=||0|kind=straight n=3 cycles=4 stalls=1
+c=0 u=u i=0 line=2 add x2, x1, x0
+c=2 u=u i=1 line=3 eor x3, x2, x2
+c=3 u=u i=2 line=4 sub x4, x1, x0
+|~
+an option before the mode|--core one:2 cost k.s|=||0|kind=straight n=3 cycles=4 stalls=1
+c=0 u=u i=0 line=2 add x2, x1, x0
+c=2 u=u i=1 line=3 eor x3, x2, x2
+c=3 u=u i=2 line=4 sub x4, x1, x0
+|~
+a mark behind which no options are|cost --core one:2 -- k.s|=||0|kind=straight n=3 cycles=4 stalls=1
+c=0 u=u i=0 line=2 add x2, x1, x0
+c=2 u=u i=1 line=3 eor x3, x2, x2
+c=3 u=u i=2 line=4 sub x4, x1, x0
+|~
+the one architecture|cost k.s --arch arm64 --core one:2|=||0|kind=straight n=3 cycles=4 stalls=1
+c=0 u=u i=0 line=2 add x2, x1, x0
+c=2 u=u i=1 line=3 eor x3, x2, x2
+c=3 u=u i=2 line=4 sub x4, x1, x0
+|~
+other markers|cost k.s --start a --end=_b --core one:1|slothy_start:
+a:
+        add x1, x1, x2
+_b:
+||0|kind=straight n=1 cycles=1 stalls=0
+c=0 u=u i=0 line=3 add x1, x1, x2
+|~
+";
+
+#[test]
+fn right_words_say_the_same_in_other_ways(rt: HostRuntime) -> Failing {
+    let mut failing = Failing::new(rt.alloc());
+    compare(&rt, rt.alloc(), &mut failing, COST, RIGHT_WORDS);
     failing
 }
 

@@ -13,3 +13,7 @@ mod printing;
 mod reading;
 #[cfg(test)]
 mod run;
+#[cfg(test)]
+mod symbols;
+#[cfg(test)]
+mod words;

@@ -122,8 +122,12 @@ flags written twice|=|slothy_start:
         adds x1, x2, x3
         subs x4, x5, x6
 slothy_end:
-||3||slothy: k.s:3: refused: NotYet
-~
+||0|slothy_start:
+        // @slothy:region v=1 kind=straight n=2 cycles=2 stalls=0
+        adds x1, x2, x3 // @slothy:i=0 u=u c=0 line=2
+        subs x4, x5, x6 // @slothy:i=1 u=u c=1 line=3
+slothy_end:
+|~
 no items|=|slothy_start:
 slothy_end:
 ||0|slothy_start:
@@ -135,9 +139,109 @@ a register written twice above a bad line|=|slothy_start:
         add x2, x3, x3
         nop
 slothy_end:
-||3||slothy: k.s:3: refused: NotYet
+||3||slothy: k.s:4: refused: UnknownMnemonic
+~
+no stall is allowed|opt k.s --core one:2 --max-stalls 0|slothy_start:
+        add x2, x1, x0
+        add x3, x2, x2
+slothy_end:
+||1||slothy: infeasible up to 0 stalls
 ~
 ";
+
+/// Regions whose values may change registers, with their best schedules.
+const RENAMED: &str = "\
+a value that would hold back another|=|slothy_start:
+        add x2, x1, x0
+        eor x3, x2, x2
+        add x2, x4, x0
+        eor x5, x2, x2
+slothy_end:
+||0|slothy_start:
+        // @slothy:region v=1 kind=straight n=4 cycles=4 stalls=0
+        add x3, x1, x0 // @slothy:i=0 u=u c=0 line=2
+        add x2, x4, x0 // @slothy:i=2 u=u c=1 line=4
+        eor x3, x3, x3 // @slothy:i=1 u=u c=2 line=3
+        eor x5, x2, x2 // @slothy:i=3 u=u c=3 line=5
+slothy_end:
+|~
+three names in two registers|opt k.s --core one:1 --free x5|slothy_start:
+        add x<a>, x0, x1
+        add x<b>, x0, x2
+        add x<c>, x0, x3
+        madd x4, x<a>, x<b>, x<c>
+slothy_end:
+||1||slothy: infeasible up to 64 stalls
+~
+three names in three registers|opt k.s --core one:1 --free x5,x6|slothy_start:
+        add x<a>, x0, x1
+        add x<b>, x0, x2
+        add x<c>, x0, x3
+        madd x4, x<a>, x<b>, x<c>
+slothy_end:
+||0|slothy_start:
+        // @slothy:region v=1 kind=straight n=4 cycles=4 stalls=0
+        add x4, x0, x1 // @slothy:i=0 u=u c=0 line=2
+        add x5, x0, x2 // @slothy:i=1 u=u c=1 line=3
+        add x6, x0, x3 // @slothy:i=2 u=u c=2 line=4
+        madd x4, x4, x5, x6 // @slothy:i=3 u=u c=3 line=5
+slothy_end:
+|~
+the least register of a kind|opt k.s --core one:1 --live x3|slothy_start:
+        add x1, x0, x0
+        add x2, x1, x1
+        add x3, x2, x2
+slothy_end:
+||0|slothy_start:
+        // @slothy:region v=1 kind=straight n=3 cycles=3 stalls=0
+        add x1, x0, x0 // @slothy:i=0 u=u c=0 line=2
+        add x1, x1, x1 // @slothy:i=1 u=u c=1 line=3
+        add x3, x1, x1 // @slothy:i=2 u=u c=2 line=4
+slothy_end:
+|~
+an output that stays in its operand's register|opt k.s --core one:1 --free x9|slothy_start:
+        movz x<a>, #1
+        movk w<a>, #2, lsl #16
+        add x1, x<a>, x2
+slothy_end:
+||0|slothy_start:
+        // @slothy:region v=1 kind=straight n=3 cycles=3 stalls=0
+        movz x1, #1 // @slothy:i=0 u=u c=0 line=2
+        movk w1, #2, lsl #16 // @slothy:i=1 u=u c=1 line=3
+        add x1, x1, x2 // @slothy:i=2 u=u c=2 line=4
+slothy_end:
+|~
+elements of halfwords stay in the low registers|opt k.s --core one:1 --live v20 --free v17,v9|slothy_start:
+        add v<a>.8h, v0.8h, v1.8h
+        mul v20.8h, v3.8h, v<a>.h[0]
+slothy_end:
+||0|slothy_start:
+        // @slothy:region v=1 kind=straight n=2 cycles=2 stalls=0
+        add v9.8h, v0.8h, v1.8h // @slothy:i=0 u=u c=0 line=2
+        mul v20.8h, v3.8h, v9.h[0] // @slothy:i=1 u=u c=1 line=3
+slothy_end:
+|~
+no low register for an element|opt k.s --core one:1 --live v20 --free v17|slothy_start:
+        add v<a>.8h, v0.8h, v1.8h
+        mul v20.8h, v3.8h, v<a>.h[0]
+slothy_end:
+||1||slothy: infeasible up to 64 stalls
+~
+a name that nothing writes|=|slothy_start:
+        add x1, x0, x0
+        add x2, x<a>, x1
+        add x<a>, x1, x1
+slothy_end:
+||3||slothy: k.s:3: refused: SymbolUnset
+~
+";
+
+#[test]
+fn values_get_the_best_registers(rt: HostRuntime) -> Failing {
+    let mut failing = Failing::new(rt.alloc());
+    compare(&rt, rt.alloc(), &mut failing, OPT, RENAMED);
+    failing
+}
 
 #[test]
 fn opt_writes_the_best_schedule(rt: HostRuntime) -> Failing {

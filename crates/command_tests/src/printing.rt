@@ -6,10 +6,7 @@ use sample_set::Failing;
 use sl_text::text_of;
 use std::alloc::{AllocError, Global};
 
-const WANTS: Wants = Wants {
-    limit: 5000,
-    once: false,
-};
+const WANTS: Wants = Wants { limit: 5000 };
 
 /// The plan of so many items in their own order, with the cycles 0, 2, 4 ..
 fn own_plan(alloc: Global, count: u16) -> Result<Plan, AllocError> {
@@ -115,6 +112,49 @@ fn is_right(alloc: Global, before: usize, count: u16, end: &str) -> Result<bool,
     let text = text_with(alloc, before, u32::from(count), end)?;
     let found = written(alloc, text.as_str(), count)?;
     Ok(found.as_str() == wanted_for(alloc, before, u32::from(count), end)?.as_str())
+}
+
+/// Two lines with symbolic registers, and how they are printed.
+const NAMED: [(&str, &str, &str); 3] = [
+    (
+        "ADD X<sum>,X1,X2\nADD W3,W<sum>,W<sum>",
+        "add x<sum>, x1, x2",
+        "add w3, w<sum>, w<sum>",
+    ),
+    (
+        "LDR Q<a>,[X0],#16\nMUL V<b>.8H,V<a>.8H,V0.H[1]",
+        "ldr q<a>, [x0], #16",
+        "mul v<b>.8h, v<a>.8h, v0.h[1]",
+    ),
+    (
+        "LDR D<a>,[X0]\nSTR S<a>,[X0,#4]",
+        "ldr d<a>, [x0]",
+        "str s<a>, [x0, #4]",
+    ),
+];
+
+/// Two lines with their notes.
+fn wanted_lines(alloc: Global, first: &str, second: &str) -> Result<String, AllocError> {
+    format!(in alloc;
+        "\ns:\n        // @slothy:region v=1 kind=straight n=2 cycles=7 stalls=5
+        {first} // @slothy:i=0 u=u c=0 line=3
+        {second} // @slothy:i=1 u=u c=2 line=4\ne:\n"
+    )
+}
+
+#[test]
+fn names_are_written(rt: HostRuntime) -> Failing {
+    let mut failing = Failing::new(rt.alloc());
+    for (body, first, second) in &NAMED {
+        let alloc = rt.alloc();
+        let text = format!(in alloc; "\ns:\n{body}\ne:\n");
+        let wanted = wanted_lines(alloc, first, second);
+        let (Ok(text), Ok(wanted)) = (text, wanted) else {
+            return failing;
+        };
+        failing.compare(body, written(alloc, text.as_str(), 2), wanted.as_str());
+    }
+    failing
 }
 
 #[test]

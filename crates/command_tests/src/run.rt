@@ -150,8 +150,8 @@ const WRONG_WORDS: &str = "\
     run k.s --state\x20\n\
     run k.s --core one:2\n\
     run k.s --state s.txt --core one:2\n\
-    run --state s.txt k.s\n\
-    run - --state s.txt\n\
+    run --state s.txt k.s x\n\
+    run k.s --state s.txt --live x1\n\
     cost k.s --state s.txt";
 
 /// What the run of a sum answers from a state.

@@ -9,7 +9,7 @@ use Rattle.sl_model.specs.declared.register.Reg.{Reg}
 use Rattle.sl_model.specs.declared.instruction.ArchName.TheVariants.{M4}
 use Rattle.sl_model.specs.Machine.{limit_of}
 use Rattle.sl_model.specs.Register.{same_reg}
-use Rattle.sl_model.specs.RegSets.{set_has, set_count, set_of}
+use Rattle.sl_model.specs.RegSets.{set_has, set_count, set_of, regs_in, machine_regs}
 use Rattle.sl_model.specs.Source.{outputs, place_from, source_of, list_sources, numbers_below}
 use Rattle.sl_model.specs.Body.{applied, applied_from, are_apart, conflict, is_placed, held, placed_in, is_still_held, above, stands_in, all_differ}
 use Rattle.sl_model.specs.Lawful.{IsLawful, AreValid, fit, suits_set}
@@ -55,14 +55,14 @@ adding-lawful = record {
 -- the items are valid
 pub adding-valid : AreValid adding_isa adding_items
 unfolding set_has set_count all_differ place_from same_reg
-adding-valid zero within = record { op = refl; ins_shape = refl; outs_shape = refl; operand_count = refl; output_count = refl; operand_classes = refl; output_classes = refl; distinct = refl; tied = refl }
-adding-valid (suc zero) within = record { op = refl; ins_shape = refl; outs_shape = refl; operand_count = refl; output_count = refl; operand_classes = refl; output_classes = refl; distinct = refl; tied = refl }
-adding-valid (suc (suc zero)) within = record { op = refl; ins_shape = refl; outs_shape = refl; operand_count = refl; output_count = refl; operand_classes = refl; output_classes = refl; distinct = refl; tied = refl }
+adding-valid zero within = record { op = refl; ins_shape = refl; outs_shape = refl; operand_count = refl; output_count = refl; operand_classes = refl; output_classes = refl; distinct = refl; tied = refl; base_apart = refl }
+adding-valid (suc zero) within = record { op = refl; ins_shape = refl; outs_shape = refl; operand_count = refl; output_count = refl; operand_classes = refl; output_classes = refl; distinct = refl; tied = refl; base_apart = refl }
+adding-valid (suc (suc zero)) within = record { op = refl; ins_shape = refl; outs_shape = refl; operand_count = refl; output_count = refl; operand_classes = refl; output_classes = refl; distinct = refl; tied = refl; base_apart = refl }
 adding-valid (suc (suc (suc p))) within = absurd (omega arith)
 
 -- the schedule is legal and full
 pub adding-legal : IsFullLegal adding_problem adding_schedule
-unfolding set_has set_of all_differ place_from same_reg source_of list_sources are_apart conflict is_placed held placed_in is_still_held above stands_in first_broken numbers_below
+unfolding set_has set_of regs_in machine_regs all_differ place_from same_reg source_of list_sources are_apart conflict is_placed held placed_in is_still_held above stands_in first_broken numbers_below
 adding-legal =
     record {
       legal = (record { of = record { known = refl; shape = refl; outputs_given = refl }; rules = refl }, (record { of = record { known = refl; shape = refl; outputs_given = refl }; rules = refl }, (record { of = record { known = refl; shape = refl; outputs_given = refl }; rules = refl }, tt)));
@@ -76,5 +76,5 @@ adding-applied = refl
 
 -- choices that break a rule
 pub adding-broken : BreakRules
-unfolding set_has set_of all_differ place_from same_reg source_of list_sources are_apart conflict is_placed held placed_in is_still_held above stands_in first_broken numbers_below
+unfolding set_has set_of regs_in machine_regs all_differ place_from same_reg source_of list_sources are_apart conflict is_placed held placed_in is_still_held above stands_in first_broken numbers_below
 adding-broken = record { twice = refl; too_early = refl; foreign = refl; over_final = refl }

@@ -1,10 +1,11 @@
 -- What the definitions say where one would look first for a mistake: empty lists, the zero
 -- register, the last address, cores of one and of eight slots, accesses of 32 bytes, an item that
--- reads and writes one register, and two outputs.
+-- reads and writes one register, two outputs, and live and free registers.
 use Rattle.std.specs.Prelude.{ℕ, ℤ, Bool, Option, ◌==◌, replicate, slice_index_or, if◌then◌else◌, true, false, ◌≡◌, pos, ◌-◌, ◌*◌, ◌^◌, ◌%◌, ◌-ℤ◌, nat_lt, List, [], ◌∷◌, slice_index, None, Some}
 use Rattle.std.specs.Ordering.{nat_cmp}
 use Rattle.std.specs.FinMap.{FinMap}
-use Rattle.sl_model.specs.declared.register.Bank.TheVariants.{General, Vector, Stack}
+use Rattle.sl_model.specs.declared.frame.Frame.{Frame}
+use Rattle.sl_model.specs.declared.register.Bank.TheVariants.{General, Vector, Flags, Stack}
 use Rattle.sl_model.specs.declared.register.Reg.{Reg}
 use Rattle.sl_model.specs.declared.register.RegSet.{RegSet}
 use Rattle.sl_model.specs.declared.instruction.ArchName.TheVariants.{Arm64}
@@ -14,6 +15,7 @@ use Rattle.sl_model.specs.declared.schedule.Choice.{Choice}
 use Rattle.sl_model.specs.declared.schedule.CostRow.{CostRow}
 use Rattle.sl_model.specs.declared.schedule.Source.TheVariants.{Entry, Item}
 use Rattle.sl_model.specs.declared.rules.Rule.TheVariants.{L2, L4}
+use Rattle.sl_model.specs.RegSets.{set_of, regs_in}
 use Rattle.sl_model.specs.Source.{last_source, list_sources}
 use Rattle.sl_model.specs.State.{State, is_zero, read, write, byte, put, load, store}
 use Rattle.sl_model.specs.Isa.{Isa, address_at}
@@ -22,8 +24,9 @@ use Rattle.sl_model.specs.Body.{conflict, held, ranges_disjoint, tags_differ}
 use Rattle.sl_model.specs.Cycles.{CostTable, Push, issued, cycles_of, cycle_count, stalls}
 use Rattle.sl_model.specs.Lawful.{zero_register}
 use Rattle.sl_model.specs.Graph.{body_of, list_graph}
-use Rattle.sl_model.specs.Legal.{Problem, IsFullLegal, straight_problem, first_broken}
-use Rattle.sl_model.specs.Program.{ShareByte, turns_at}
+use Rattle.sl_model.specs.Legal.{Problem, IsFullLegal, frame_of, straight_problem, first_broken}
+use Rattle.sl_model.specs.Program.{ShareByte, turns_at, is_live, may_change}
+use Rattle.sl_model.specs.Program.Program.{Straight, Loop}
 
 -- Of nothing: it takes no cycle and no stall, leaves the state, makes no access and reads nothing;
 -- and its empty schedule is legal and full.
@@ -33,8 +36,8 @@ pub record OfNothing : Type 0 where
   pub same_state : (isa : Isa) (s : State) → run isa [] s ≡ s
   pub no_access : (isa : Isa) (s : State) → touches isa [] s ≡ []
   pub entries_stay : (r : Reg) → last_source [] r ≡ Entry r
-  pub schedule : (isa : Isa) (live free : List Reg) (costs : CostTable)
-      → IsFullLegal (straight_problem isa [] live free costs) []
+  pub schedule : (isa : Isa) (frame : Frame) (costs : CostTable)
+      → IsFullLegal (straight_problem isa [] frame costs) []
 
 -- a general register
 abbrev pub x : ℕ → Reg
@@ -151,12 +154,21 @@ exchange c d a b = record {
 abbrev pub twice : List Instr
 twice = exchange (x 1) (x 2) (x 1) (x 2) ∷ exchange (x 1) (x 2) (x 1) (x 2) ∷ []
 
--- the straight problem of these, with both registers live-out, on a core with one unit
+-- what they cost on a core with one unit
+abbrev pub twice_costs : CostTable
+twice_costs =
+    let row : CostRow = record {
+      class = 0;
+      units = 1;
+      busy = 1;
+      latency = 1;
+      writeback = 1;
+      back = None;
+    } in record { width = 1; rows = row ∷ row ∷ []; forwards = [] }
+
+-- the straight problem of these: both registers are live, and no other is free
 abbrev pub twice_problem : Problem
-twice_problem =
-    let row : CostRow = record { class = 0; units = 1; busy = 1; latency = 1; writeback = 1; back = None } in
-    straight_problem exchanging_isa twice (x 1 ∷ x 2 ∷ []) []
-    (record { width = 1; rows = row ∷ row ∷ []; forwards = [] })
+twice_problem = straight_problem exchanging_isa twice (frame_of twice None none) twice_costs
 
 -- an item on unit 0 with two outputs
 abbrev pub choose : ℕ → Reg → Reg → Choice
@@ -181,6 +193,47 @@ pub record OfOneItem : Type 0 where
       ≡ Some L4
   pub schedule : IsFullLegal twice_problem
       (choose 0 (x 1) (x 2) ∷ choose 1 (x 1) (x 2) ∷ [])
+
+-- a symbolic register
+abbrev pub symbol : Reg
+symbol = record { bank = General; symbolic = true; number = 1 }
+
+-- a vector register
+abbrev pub vector : Reg
+vector = record { bank = Vector; symbolic = false; number = 0 }
+
+-- the flags
+abbrev pub flags : Reg
+flags = record { bank = Flags; symbolic = false; number = 0 }
+
+-- the stack pointer
+abbrev pub stack : Reg
+stack = record { bank = Stack; symbolic = false; number = 0 }
+
+-- The registers of a set stand in the order of their bits, each once. The registers that items
+-- write are live where none are given, and allowed in any case; free ones are allowed, and not
+-- live. A symbolic register is neither. A live register that no item writes is final with what it
+-- held at first. The counter of a loop is live. What is neither written, live nor allowed keeps
+-- its value.
+pub record OfFrames : Type 0 where
+  pub ascending : regs_in (set_of (stack ∷ flags ∷ vector ∷ x 30 ∷ x 2 ∷ x 30 ∷ symbol ∷ []))
+      ≡ x 2 ∷ x 30 ∷ vector ∷ flags ∷ stack ∷ []
+  pub live_unless_given : regs_in (frame_of twice None none).live ≡ x 1 ∷ x 2 ∷ []
+  pub live_given : regs_in (frame_of twice (Some (set_of (x 2 ∷ x 5 ∷ []))) none).live
+      ≡ x 2 ∷ x 5 ∷ []
+  pub none_live : regs_in (frame_of twice (Some none) none).live ≡ []
+  pub allowed : regs_in (frame_of twice (Some none) none).allowed ≡ x 1 ∷ x 2 ∷ []
+  pub free : regs_in (frame_of twice None (set_of (x 9 ∷ x 1 ∷ []))).allowed
+      ≡ x 1 ∷ x 2 ∷ x 9 ∷ []
+  pub free_not_live : regs_in (frame_of twice None (set_of (x 9 ∷ []))).live ≡ x 1 ∷ x 2 ∷ []
+  pub symbolic : frame_of (exchange symbol (x 2) (x 1) (x 2) ∷ []) None none
+      ≡ record { live = set_of (x 2 ∷ []); allowed = set_of (x 2 ∷ []) }
+  pub finals : (straight_problem exchanging_isa twice
+      (frame_of twice (Some (set_of (x 2 ∷ x 5 ∷ []))) none) twice_costs).finals
+      ≡ (x 2, Item 1 1) ∷ (x 5, Entry (x 5)) ∷ []
+  pub counter : is_live (frame_of twice None none) (Loop [] twice (x 8) false []) (x 8) ≡ true
+  pub kept : (decrement : Bool → Reg → Instr)
+      → may_change decrement (frame_of twice None none) (Straight twice) (x 3) ≡ false
 
 -- what a form is: form 0 stores 32 bytes at a base, form 1 loads 32 bytes, and any other makes no
 -- access

@@ -1,6 +1,7 @@
 -- A small instruction set, and a straight list with a schedule in another order and in other
 -- registers: there are lawful sets, valid items and legal schedules.
 use Rattle.std.specs.Prelude.{ℕ, ◌≡◌, pos, nat_lt, false, ◌+◌, ◌-◌, ◌%◌, ◌^◌, List, [], ◌∷◌, slice_index, None, Some}
+use Rattle.sl_model.specs.declared.frame.Frame.{Frame}
 use Rattle.sl_model.specs.declared.register.Bank.TheVariants.{General}
 use Rattle.sl_model.specs.declared.register.Reg.{Reg}
 use Rattle.sl_model.specs.declared.register.RegSet.{RegSet}
@@ -9,10 +10,11 @@ use Rattle.sl_model.specs.declared.instruction.FormInfo.{FormInfo}
 use Rattle.sl_model.specs.declared.instruction.Instr.{Instr}
 use Rattle.sl_model.specs.declared.schedule.Choice.{Choice}
 use Rattle.sl_model.specs.declared.schedule.CostRow.{CostRow}
+use Rattle.sl_model.specs.RegSets.{set_of}
 use Rattle.sl_model.specs.Cycles.{CostTable}
 use Rattle.sl_model.specs.Isa.{Isa}
 use Rattle.sl_model.specs.declared.rules.Rule.TheVariants.{L1, L2, L4, L7}
-use Rattle.sl_model.specs.Legal.{Problem, first_broken, straight_problem}
+use Rattle.sl_model.specs.Legal.{Problem, first_broken, frame_of, straight_problem}
 
 -- a general register
 abbrev pub general : ℕ → Reg
@@ -83,11 +85,14 @@ adding_costs =
       back = None;
     } in record { width = 1; rows = row ∷ row ∷ row ∷ []; forwards = [] }
 
--- r2 and r4 are live-out, r3 is free
+-- r2 and r4 are live, r3 is free
+abbrev pub adding_frame : Frame
+adding_frame =
+    frame_of adding_items (Some (set_of (general 2 ∷ general 4 ∷ []))) (set_of (general 3 ∷ []))
+
+-- the straight problem of these
 abbrev pub adding_problem : Problem
-adding_problem =
-    straight_problem adding_isa adding_items (general 2 ∷ general 4 ∷ []) (general 3 ∷ [])
-    adding_costs
+adding_problem = straight_problem adding_isa adding_items adding_frame adding_costs
 
 -- an item on the one unit, with its output in a register
 abbrev pub choice : ℕ → Reg → Choice

@@ -8,7 +8,7 @@ ghost use Rattle.sl_model.specs.Body.{applied};
 ghost use Rattle.sl_model.specs.Lawful.{IsLawful, AreValid};
 ghost use Rattle.sl_model.specs.Graph.{body_of};
 ghost use Rattle.sl_model.specs.Legal.{IsFullLegal};
-ghost use Rattle.edge_cases.specs.Edges.{OfNothing, OfZero, OfLastAddress, OfRanges, OfWidths, OfOneItem, OfAccesses};
+ghost use Rattle.edge_cases.specs.Edges.{OfNothing, OfZero, OfLastAddress, OfRanges, OfWidths, OfOneItem, OfFrames, OfAccesses};
 ghost use Rattle.edge_cases.specs.Example.{adding_isa, adding_items, adding_problem, adding_schedule, add, general, BreakRules};
 
 /// An empty list takes no cycle, leaves the state, and has one schedule, which is empty.
@@ -39,6 +39,11 @@ pub fn a_cycle_has_as_many_slots_as_the_core_is_wide()
 /// An item may read the registers that it writes, and may write two.
 pub fn an_item_reads_before_it_writes()
     ensures { OfOneItem }
+{}
+
+/// What items write is live unless other registers are given, and is allowed beside the free ones.
+pub fn what_is_written_is_live_unless_others_are_given()
+    ensures { OfFrames }
 {}
 
 /// Accesses conflict where they share a byte of one base and one of them stores; other

@@ -1,5 +1,5 @@
 -- An instruction that was read is kept as one of its own row.
-use Rattle.std.proofs.Common.{◌≡◌, ◌∙◌, sym, ap, subst, refl, ℕ, zero, suc, ◌==◌, ◌≤◌, true, cond, not, List, [], ◌∷◌, length}
+use Rattle.std.proofs.Common.{◌≡◌, ◌∙◌, sym, ap, subst, refl, ℕ, zero, suc, ◌==◌, ◌≤◌, true, false, cond, not, List, [], ◌∷◌, length}
 use Rattle.std.specs.Prelude.{ℤ, nat_le, unsigned_abs, Option, Some, None, slice_get, slice_set}
 use Rattle.std.proofs.Math.Logic.{⊎_elim}
 use Rattle.std.proofs.lemmas.Bool.{leb-true, cases_Bool, false≢true}
@@ -11,7 +11,7 @@ use Rattle.form_table.specs.declared.rows.Alias.TheVariants as alias
 use Rattle.form_table.specs.declared.rows.Row.{Row}
 use Rattle.form_table.specs.declared.spells.Held.{Held}
 use Rattle.form_table.specs.declared.reader.Fit.{Fit}
-use Rattle.form_table.proofs.ForCallers.{Shaped, all_kept_at}
+use Rattle.form_table.proofs.ForCallers.{Shaped, all_kept_at, SameNumbers, fit_with}
 use Rattle.form_isa.specs.TableIsa.{ranges, last_number, is_kept}
 use Rattle.form_isa.specs.LawfulTable.{is_last_number, has_its_number}
 use Rattle.form_isa.proofs.Numbers.{three, EndsAt, last-is, last-number}
@@ -92,3 +92,42 @@ pub kept-alone : (table : List Row) (fit : Fit) (row : Row) → all_kept table t
     is_kept row.alias (last_number row (three fit.helds)) ≡ true
 kept-alone table fit row kept at stays number s =
     alone-by table fit row row.alias refl at stays (all_kept_at table table fit.form row kept at) number s
+
+-- ---- the same with other registers
+
+still-numbered : (o : Option ℤ) → ((n : ℤ) → o ≡ Some n → (unsigned_abs n == 0) ≡ true → ⊥) → is_zero o ≡ false
+still-numbered None other = refl
+still-numbered (Some n) other = ⊎_elim (λ none. absurd (other n refl none)) (λ some. some) (cases_Bool (unsigned_abs n == 0))
+
+number-same : (place : ℕ) (olds news : List Held) → SameNumbers olds news → (held_at news place).number ≡ (held_at olds place).number
+number-same place [] [] same = refl
+number-same place [] (new ∷ news) same = absurd same
+number-same place (old ∷ olds) [] same = absurd same
+number-same zero (old ∷ olds) (new ∷ news) same = same.0
+number-same (suc place) (old ∷ olds) (new ∷ news) same = number-same place olds news same.1
+
+zero-stays : (fit : Fit) (form place : ℕ) (news : List Held) → settled (alias.ZeroAs form place) fit ≡ fit → SameNumbers fit.helds news →
+    settled (alias.ZeroAs form place) (fit_with fit.form news) ≡ fit_with fit.form news
+unfolding settled
+zero-stays fit form place news stays same =
+    ap (λ b. cond b (fit_with form (without_number news place)) (fit_with fit.form news))
+    (ap is_zero (number-same place fit.helds news same)
+    ∙ still-numbered (held_at fit.helds place).number (λ n e none. not-zero fit form place n stays e none))
+
+stays-by : (table : List Row) (fit : Fit) (row : Row) (a : Alias) (news : List Held) → row.alias ≡ a → slice_get table fit.form ≡ Some row →
+    settled a fit ≡ fit → has_kept table row a ≡ true → SameNumbers fit.helds news →
+    settled a (fit_with fit.form news) ≡ fit_with fit.form news
+unfolding settled
+stays-by table fit row alias.Own news is at stays e same = refl
+stays-by table fit row (alias.As form) news is at stays e same =
+    absurd (false≢true (ap is_own (sym is) ∙ as-own table fit row form at stays e))
+stays-by table fit row (alias.Repeat form) news is at stays e same =
+    absurd (false≢true (ap is_own (sym is) ∙ repeat-own table fit row form at stays e))
+stays-by table fit row (alias.ZeroAs form place) news is at stays e same = zero-stays fit form place news stays same
+
+-- A form that keeps what was read keeps it with other registers.
+pub stays-renamed : (table : List Row) (fit : Fit) (row : Row) (news : List Held) → all_kept table table ≡ true →
+    slice_get table fit.form ≡ Some row → settled row.alias fit ≡ fit → SameNumbers fit.helds news →
+    settled row.alias (fit_with fit.form news) ≡ fit_with fit.form news
+stays-renamed table fit row news kept at stays same =
+    stays-by table fit row row.alias news refl at stays (all_kept_at table table fit.form row kept at) same

@@ -13,5 +13,9 @@ pub mod Suits
 pub mod Ties
 pub mod Numbers
 pub mod Alone
+pub mod BaseApart
 pub mod ReadValid
+pub mod Dealt
+pub mod TiedBack
+pub mod Renamed
 pub mod TableLanguage

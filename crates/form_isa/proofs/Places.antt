@@ -21,7 +21,7 @@ placed-padded zero regs r = refl
 placed-padded (suc n) [] r = refl
 placed-padded (suc n) (q ∷ regs) r = ap (λ places. Some q ∷ places) (placed-padded n regs r)
 
-all_placed-padded : (n : ℕ) (regs more : List Reg) → all_placed (padded n regs) more ≡ padded n (regs ++ more)
+pub all_placed-padded : (n : ℕ) (regs more : List Reg) → all_placed (padded n regs) more ≡ padded n (regs ++ more)
 unfolding all_placed
 all_placed-padded n regs [] = ap (padded n) (sym (append-nil regs))
 all_placed-padded n regs (r ∷ more) =

@@ -1,5 +1,5 @@
 -- What is read by a table is an instruction of its set.
-use Rattle.std.proofs.Common.{◌≡◌, ◌∙◌, sym, ap, subst, refl, ℕ, ◌≤◌, Bool, true, false, cond, List, length, arith}
+use Rattle.std.proofs.Common.{◌≡◌, ◌∙◌, sym, ap, subst, refl, ℕ, ◌≤◌, Bool, true, false, cond, not, List, length, arith}
 use Rattle.std.specs.Prelude.{Some, None, Result, Ok, Err, slice_get}
 use Rattle.std.specs.List.{list_all, zip, filter_map}
 use Rattle.sl_model.specs.declared.instruction.ArchName.{ArchName}
@@ -9,7 +9,9 @@ use Rattle.sl_model.specs.RegSets.{set_count}
 use Rattle.sl_model.specs.Source.{operands, outputs, padded}
 use Rattle.sl_model.specs.Body.{all_differ}
 use Rattle.sl_model.specs.Isa.{op_of}
-use Rattle.sl_model.specs.Lawful.{IsValid, suits_set, is_tied_to}
+use Rattle.sl_model.specs.Register.{same_reg}
+use Rattle.sl_model.specs.Lawful.{IsValid, suits_set, is_tied_to, is_base_alone, is_base_apart}
+use Rattle.sl_isa.specs.Symbols.{Pair}
 use Rattle.sl_isa.specs.Language.{IsRead}
 use Rattle.sl_isa.specs.declared.reasons.FormReason.{FormReason}
 use Rattle.sl_isa.specs.declared.reasons.FormReason.TheVariants.{ImmediateRange, RegisterClass, SameRegister}
@@ -21,13 +23,14 @@ use Rattle.sl_model.specs.Token.{Lexeme}
 use Rattle.form_table.specs.declared.rows.Row.{Row}
 use Rattle.form_table.specs.declared.spells.Held.{Held}
 use Rattle.form_table.specs.declared.reader.Pick.TheVariants as pick
-use Rattle.form_table.proofs.ForCallers.{IsReadBy, Shaped, filled_shaped, form_of, not_refused, read_kept, same_Ok, operands_machine, outputs_machine}
+use Rattle.form_table.proofs.ForCallers.{IsReadBy, Shaped, filled_shaped, form_of, not_refused, read_kept, read_named, same_Ok}
 use Rattle.form_isa.specs.Info.{classes, input_classes, output_classes, padded_classes, all_ties, padded_ties, info_of, info_at}
 use Rattle.form_isa.specs.LawfulTable.{banks_of, is_lawful_row, is_lawful_table}
 use Rattle.form_isa.specs.TableIsa.{last_number, is_kept, takes, is_valid, table_isa}
 use Rattle.form_isa.proofs.Tests.{IsLawfulRow, lawful-row}
 use Rattle.form_isa.proofs.Lawful.{lawful-at}
 use Rattle.form_isa.proofs.Alone.{kept-alone}
+use Rattle.form_isa.proofs.BaseApart.{base-apart}
 use Rattle.form_isa.proofs.Numbers.{three, three-fits}
 use Rattle.form_isa.proofs.Outputs.{only-count}
 use Rattle.form_isa.proofs.Places.{read_regs, written_regs, inputs-padded, results-padded, repeats-differ}
@@ -48,6 +51,7 @@ pub record IsJudged (form : ℕ) (row : Row) (helds : List Held) (i : Instr) : T
   pub sum : sum_suits row.sum (number_at 0 helds) (number_at 1 helds) ≡ true
   pub registers : registers_suit (row_operands row) helds ≡ true
   pub distinct : repeats (results row helds) ≡ false
+  pub apart : shares_base row helds ≡ false
   pub made : instr_of form row helds ≡ i
 
 pub judged-is : (form : ℕ) (row : Row) (helds : List Held) (i : Instr) → judged form row helds ≡ Ok i →
@@ -64,6 +68,7 @@ judged-is form row helds i e =
       sum = two.0;
       registers = three.0;
       distinct = four.0;
+      apart = five.0;
       made = same_Ok (instr_of form row helds) i five.1;
     }
 
@@ -74,18 +79,19 @@ pub record IsOwn (row : Row) (helds : List Held) : Type 0 where
   pub sum : sum_suits row.sum (number_at 0 helds) (number_at 1 helds) ≡ true
   pub registers : registers_suit (row_operands row) helds ≡ true
   pub distinct : repeats (results row helds) ≡ false
+  pub apart : shares_base row helds ≡ false
   pub alone : is_kept row.alias (last_number row (three helds)) ≡ true
 
 -- the registers of its instruction
-record HasRegs (row : Row) (helds : List Held) (i : Instr) : Type 0 where
-  read : AreOf (read_regs row helds) (input_classes row)
-  written : AreOf (written_regs row helds) (output_classes row)
-  few_read : length (read_regs row helds) ≤ 4
-  few_written : length (written_regs row helds) ≤ 3
-  ins : i.ins ≡ padded 4 (read_regs row helds)
-  outs : i.outs ≡ padded 3 (written_regs row helds)
+pub record HasRegs (row : Row) (helds : List Held) (i : Instr) : Type 0 where
+  pub read : AreOf (read_regs row helds) (input_classes row)
+  pub written : AreOf (written_regs row helds) (output_classes row)
+  pub few_read : length (read_regs row helds) ≤ 4
+  pub few_written : length (written_regs row helds) ≤ 3
+  pub ins : i.ins ≡ padded 4 (read_regs row helds)
+  pub outs : i.outs ≡ padded 3 (written_regs row helds)
 
-has-regs : (form : ℕ) (row : Row) (helds : List Held) → IsLawfulRow row → IsOwn row helds →
+pub has-regs : (form : ℕ) (row : Row) (helds : List Held) → IsLawfulRow row → IsOwn row helds →
     HasRegs row helds (instr_of form row helds)
 unfolding instr_of
 has-regs form row helds lawful own =
@@ -176,6 +182,13 @@ differ-outputs row helds i own has =
     ap repeats (sym (results-padded row helds)) ∙ own.distinct in
     ap all_differ (written-back row helds i has) ∙ repeats-differ 3 (written_regs row helds) has.few_written apart
 
+-- a base that is written back is alone
+apart-base : (row : Row) (helds : List Held) (i : Instr) → IsLawfulRow row → IsOwn row helds → HasRegs row helds i →
+    is_base_apart (info_of row) i ≡ true
+apart-base row helds i lawful own has =
+    ap (is_base_alone same_reg (info_of row)) (read-back row helds i has)
+    ∙ (base-apart row.meaning row helds lawful.suits lawful.few own.shaped own.registers ∙ ap not own.apart)
+
 -- The instruction of a row whose operands hold these is one of the set.
 pub made-valid : (name : ArchName) (table : List Row) (form : ℕ) (row : Row) (helds : List Held) →
     slice_get table form ≡ Some row → is_lawful_row row ≡ true →
@@ -198,6 +211,9 @@ made-valid name table form row helds at lawful own =
       tied =
           subst (λ (f : FormInfo). list_all (is_tied_to (operands i)) (zip (outputs i) f.tied) ≡ true) (sym info)
           (tied-outputs row helds i own has);
+      base_apart =
+          subst (λ (f : FormInfo). is_base_apart f i ≡ true) (sym info)
+          (apart-base row helds i (lawful-row row lawful) own has);
     }
 
 made-plain : (form : ℕ) (row : Row) (helds : List Held) →
@@ -218,9 +234,9 @@ made-is name table form row helds at lawful own =
     (made-valid name table form row helds at lawful own, plain.0, plain.1, plain.2, plain.3)
 
 -- Where a form of the table keeps what its operands hold, and was judged to be an instruction, its operands are its own.
-own-is : (table : List Row) (i : Instr) (r : IsReadBy table i) → all_kept table table ≡ true → is_lawful_row r.kept.row ≡ true →
+pub own-is : (table : List Row) (pairs : List Pair) (i : Instr) (r : IsReadBy table pairs i) → all_kept table table ≡ true → is_lawful_row r.kept.row ≡ true →
     IsOwn r.kept.row r.fit.helds
-own-is table i r kept lawful =
+own-is table pairs i r kept lawful =
     let judges : IsJudged r.fit.form r.kept.row r.fit.helds i = judged-is r.fit.form r.kept.row r.fit.helds i r.judges in
     let shaped : Shaped (row_operands r.kept.row) r.fit.helds =
     filled_shaped (row_operands r.kept.row) r.fit.helds r.kept.filled in
@@ -230,23 +246,23 @@ own-is table i r kept lawful =
       sum = judges.sum;
       registers = judges.registers;
       distinct = judges.distinct;
+      apart = judges.apart;
       alone = kept-alone table r.fit r.kept.row kept r.kept.at r.kept.stays (lawful-row r.kept.row lawful).number shaped;
     }
 
-pub read-valid : (name : ArchName) (table : List Row) (words : List Lexeme) (i : Instr) → is_table table ≡ true →
+pub read-valid : (name : ArchName) (table : List Row) (pairs : List Pair) (words : List Lexeme) (i : Instr) → is_table table ≡ true →
     is_lawful_table table ≡ true →
-    reads table words ≡ Ok i → IsRead (table_isa name table) i
-read-valid name table words i tests lawful e =
+    reads table pairs words ≡ Ok i → IsRead (table_isa name table) pairs i
+read-valid name table pairs words i tests lawful e =
     let one = then_parts (tables.all_differ table) (cond (all_kept table table) (all_rows table) false) tests in
     let two = then_parts (all_kept table table) (all_rows table) one.1 in
-    let r : IsReadBy table i = read_kept table words i tests e in
+    let r : IsReadBy table pairs i = read_kept table pairs words i tests e in
     let row_lawful : is_lawful_row r.kept.row ≡ true = lawful-at table r.fit.form r.kept.row lawful r.kept.at in
     let made : IsMade name table i =
     subst (λ (j : Instr). IsMade name table j) (judged-is r.fit.form r.kept.row r.fit.helds i r.judges).made
-    (made-is name table r.fit.form r.kept.row r.fit.helds r.kept.at row_lawful (own-is table i r two.0 row_lawful)) in
+    (made-is name table r.fit.form r.kept.row r.fit.helds r.kept.at row_lawful (own-is table pairs i r two.0 row_lawful)) in
     record {
       valid = made.0;
       plain = (made.1, made.2, made.3, made.4);
-      operands_known = operands_machine table words i e;
-      outputs_known = outputs_machine table words i e;
+      named = read_named table pairs i r;
     }

@@ -1,15 +1,17 @@
 -- The registers of operands are of the operands' classes, one each.
-use Rattle.std.proofs.Common.{◌≡◌, ◌∙◌, sym, ap, subst, refl, ℕ, zero, suc, ◌≤◌, Bool, true, false, cond, not, ◌&&◌, eqb, List, [], ◌∷◌, ◌++◌, length, arith}
-use Rattle.std.specs.Prelude.{Option, Some, None, is_some}
+use Rattle.std.proofs.Common.{◌≡◌, ◌∙◌, sym, ap, subst, refl, ℕ, zero, suc, ◌≤◌, ◌/◌, ◌%◌, ◌^◌, Bool, true, false, cond, not, ◌&&◌, eqb, List, [], ◌∷◌, ◌++◌, length, arith}
+use Rattle.std.specs.Prelude.{Option, Some, None, is_some, nat_lt}
 use Rattle.std.specs.Int.{bit_at}
 use Rattle.std.specs.List.{list_all, zip}
 use Rattle.std.proofs.Math.Logic.{⊎_elim}
-use Rattle.std.proofs.lemmas.Bool.{and_parts, eqb-true, cases_Bool}
+use Rattle.std.proofs.lemmas.Bool.{and_parts, eqb-true, cases_Bool, false≢true}
 use Rattle.std.proofs.lemmas.Nat.Bits.{bit_at-zero}
 use Rattle.sl_model.specs.declared.register.Reg.{Reg}
 use Rattle.sl_model.specs.declared.register.RegSet.{RegSet}
 use Rattle.sl_model.specs.RegSets.{bit_of, is_in_bank, set_has, set_count}
-use Rattle.sl_model.specs.Lawful.{suits_set}
+use Rattle.sl_model.specs.declared.register.Bank.{Bank}
+use Rattle.sl_model.specs.declared.register.Bank.TheVariants.{General, Vector, Flags, Stack}
+use Rattle.sl_model.specs.Lawful.{suits_set, is_of_bank}
 use Rattle.form_table.specs.Rows.{row_operands}
 use Rattle.form_table.specs.Reads.{is_picked, kept, picked, register_suits, registers_suit}
 use Rattle.form_table.specs.Printed.{has_register}
@@ -23,14 +25,13 @@ use Rattle.form_isa.specs.Info.{classes, flags_if, input_classes, output_classes
 use Rattle.form_isa.proofs.Outputs.{count-none, count-suc}
 use Rattle.form_isa.proofs.Places.{flags_among, read_regs, written_regs}
 use Rattle.sl_laws.proofs.Tests.{then_parts}
-use Rattle.sl_laws.proofs.RegSets.{suits-from_set}
 
 -- registers of classes, one each
 abbrev pub AreOf : List Reg → List RegSet → Type 0
 AreOf [] [] = Unit {0}
 AreOf [] (set ∷ sets) = ⊥
 AreOf (r ∷ regs) [] = ⊥
-AreOf (r ∷ regs) (set ∷ sets) = (set_has set r ≡ true) × AreOf regs sets
+AreOf (r ∷ regs) (set ∷ sets) = (suits_set (r, set) ≡ true) × AreOf regs sets
 
 append-of : (regs : List Reg) (sets : List RegSet) (more : List Reg) (others : List RegSet) → AreOf regs sets →
     AreOf more others → AreOf (regs ++ more) (sets ++ others)
@@ -98,10 +99,16 @@ of-count [] (set ∷ sets) a = absurd a
 of-count (r ∷ regs) [] a = absurd a
 of-count (r ∷ regs) (set ∷ sets) a = ap suc (of-count regs sets a.1)
 
--- a class with a register isn't empty
-not_none : (set : RegSet) (r : Reg) → set_has set r ≡ true → eqb set.bits 0 ≡ true → ⊥
+-- an empty class has no register, of no bank
+no_register_of : (bank : Bank) (set : RegSet) → set.bits ≡ 0 → is_of_bank bank set ≡ false
+no_register_of General set none = ap (λ n. nat_lt 0 (n % 2 ^ 32)) none
+no_register_of Vector set none = ap (λ n. nat_lt 0 (n / 2 ^ 32 % 2 ^ 32)) none
+no_register_of Flags set none = ap (λ n. nat_lt 0 (n / 2 ^ 64 % 2)) none
+no_register_of Stack set none = ap (λ n. nat_lt 0 (n / 2 ^ 65 % 2)) none
+
+has_none : (set : RegSet) (r : Reg) → set_has set r ≡ true → eqb set.bits 0 ≡ true → ⊥
 unfolding set_has
-not_none set r e none =
+has_none set r e none =
     let parts = and_parts (not r.symbolic) (eqb (bit_at set.bits (bit_of r.bank r.number)) 1 && is_in_bank r) e in
     let more = and_parts (eqb (bit_at set.bits (bit_of r.bank r.number)) 1) (is_in_bank r) parts.1 in
     let one : bit_at set.bits (bit_of r.bank r.number) ≡ 1 = eqb-true _ 1 more.0 in
@@ -112,7 +119,15 @@ not_none set r e none =
     differ : (n : ℕ) → n ≡ 1 → n ≡ 0 → ⊥
     differ n e f = omega (arith, e, f)
 
-some-bits : (set : RegSet) (r : Reg) → set_has set r ≡ true → eqb set.bits 0 ≡ false
+-- a class that a register suits isn't empty
+not_none : (set : RegSet) (r : Reg) → suits_set (r, set) ≡ true → eqb set.bits 0 ≡ true → ⊥
+not_none set r e none = by r.symbolic e
+  where
+    by : (b : Bool) → cond b (is_of_bank r.bank set) (set_has set r) ≡ true → ⊥
+    by true e = false≢true (sym (no_register_of r.bank set (eqb-true set.bits 0 none)) ∙ e)
+    by false e = has_none set r e none
+
+some-bits : (set : RegSet) (r : Reg) → suits_set (r, set) ≡ true → eqb set.bits 0 ≡ false
 some-bits set r e = ⊎_elim (λ none. absurd (not_none set r e none)) (λ some. some) (cases_Bool (eqb set.bits 0))
 
 pub of-counted : (n : ℕ) (regs : List Reg) (sets : List RegSet) → length regs ≤ n → AreOf regs sets →
@@ -133,4 +148,4 @@ of-suit n [] (set ∷ sets) a = absurd a
 of-suit n (r ∷ regs) [] a = absurd a
 of-suit zero (r ∷ regs) (set ∷ sets) a = refl
 of-suit (suc n) (r ∷ regs) (set ∷ sets) a =
-    ap (λ b. b && list_all suits_set (zip regs (padded_classes n sets))) (suits-from_set r set a.0) ∙ of-suit n regs sets a.1
+    ap (λ b. b && list_all suits_set (zip regs (padded_classes n sets))) a.0 ∙ of-suit n regs sets a.1

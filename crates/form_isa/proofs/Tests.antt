@@ -1,12 +1,13 @@
 -- What the test of a row says.
-use Rattle.std.proofs.Common.{◌≡◌, ◌==◌, ◌<◌, ◌≤◌, Bool, true, false, cond, [], ◌∷◌, length}
+use Rattle.std.proofs.Common.{◌≡◌, ◌+◌, ◌==◌, ◌<◌, ◌≤◌, Bool, true, false, cond, [], ◌∷◌, length}
 use Rattle.std.specs.Prelude.{nat_le}
 use Rattle.std.specs.Str.{bytes_eq}
-use Rattle.std.proofs.lemmas.Bool.{leb-true, ltb-true}
+use Rattle.std.proofs.lemmas.Bool.{leb-true, ltb-true, eqb-true}
 use Rattle.std.proofs.lemmas.Slice.Eq.{bytes_eq-Decides}
 use Rattle.sl_model.specs.RegSets.{set_count}
 use Rattle.sl_isa.specs.declared.meaning.Transfer.{Transfer}
 use Rattle.form_table.specs.Rows.{row_operands}
+use Rattle.form_table.specs.Tables.{spell_classes}
 use Rattle.form_table.specs.declared.rows.Row.{Row}
 use Rattle.form_table.specs.declared.reader.Pick.TheVariants as pick
 use Rattle.form_isa.specs.Access.{width_bytes, base_place}
@@ -18,6 +19,9 @@ use Rattle.sl_laws.proofs.Tests.{then_parts}
 -- a row with an access
 pub record SuitsTransfer (t : Transfer) (row : Row) : Type 0 where
   pub base : places_of pick.Base 0 (row_operands row) ≡ base_place t ∷ []
+  pub back : places_of pick.Back 0 (row_operands row) ≡ back_places t
+  pub behind : length (classes pick.Data (row_operands row)) ≡ base_place t
+  pub all : length (input_classes row) ≡ base_place t + 1
   pub input : base_place t < set_count (padded_classes 4 (input_classes row))
   pub room : has_room t.bank (width_bytes t.width) ≡ true
   pub near : is_near (ranges (row_operands row)) ≡ true
@@ -30,13 +34,18 @@ suits-transfer t row e =
     let two = then_parts (bytes_eq (places_of pick.Back 0 (row_operands row)) (back_places t)) room one.1 in
     let three = then_parts (has_room t.bank (width_bytes t.width)) near two.1 in
     let counted : Bool = length (classes pick.Data (row_operands row)) == base_place t in
+    let whole : Bool = length (input_classes row) == base_place t + 1 in
     let four =
     then_parts (bytes_eq (places_of pick.Base 0 (row_operands row)) (base_place t ∷ []))
-    (cond counted (has_input row (base_place t)) false) one.0 in
-    let five = then_parts counted (has_input row (base_place t)) four.1 in
+    (cond counted (cond whole (has_input row (base_place t)) false) false) one.0 in
+    let five = then_parts counted (cond whole (has_input row (base_place t)) false) four.1 in
+    let six = then_parts whole (has_input row (base_place t)) five.1 in
     record {
       base = (bytes_eq-Decides (places_of pick.Base 0 (row_operands row)) (base_place t ∷ [])).0 four.0;
-      input = ltb-true (base_place t) (set_count (padded_classes 4 (input_classes row))) five.1;
+      back = (bytes_eq-Decides (places_of pick.Back 0 (row_operands row)) (back_places t)).0 two.0;
+      behind = eqb-true (length (classes pick.Data (row_operands row))) (base_place t) five.0;
+      all = eqb-true (length (input_classes row)) (base_place t + 1) six.0;
+      input = ltb-true (base_place t) (set_count (padded_classes 4 (input_classes row))) six.1;
       room = three.0;
       near = three.1;
     }
@@ -47,14 +56,23 @@ pub record IsLawfulRow (row : Row) : Type 0 where
   pub outputs : are_only_of (banks_of row.meaning) (output_classes row) ≡ true
   pub suits : suits_meaning row.meaning row ≡ true
   pub number : has_its_number row.alias (row_operands row) ≡ true
+  pub spells : spell_classes (row_operands row) ≡ true
 
 pub lawful-row : (row : Row) → is_lawful_row row ≡ true → IsLawfulRow row
 lawful-row row e =
-    let numbered : Bool = has_its_number row.alias (row_operands row) in
+    let spelled : Bool = spell_classes (row_operands row) in
+    let numbered : Bool = cond (has_its_number row.alias (row_operands row)) spelled false in
     let suited : Bool = cond (suits_meaning row.meaning row) numbered false in
     let one =
     then_parts (nat_le (length (input_classes row)) 4)
     (cond (are_only_of (banks_of row.meaning) (output_classes row)) suited false) e in
     let two = then_parts (are_only_of (banks_of row.meaning) (output_classes row)) suited one.1 in
     let three = then_parts (suits_meaning row.meaning row) numbered two.1 in
-    record { few = leb-true (length (input_classes row)) 4 one.0; outputs = two.0; suits = three.0; number = three.1 }
+    let four = then_parts (has_its_number row.alias (row_operands row)) spelled three.1 in
+    record {
+      few = leb-true (length (input_classes row)) 4 one.0;
+      outputs = two.0;
+      suits = three.0;
+      number = four.0;
+      spells = four.1;
+    }

@@ -29,14 +29,14 @@ stand-first ins from r regs h =
     let here : from + 0 ≡ from = omega arith in
     ap (λ o. is_some_reg o r) (ap (slice_get ins) (sym here) ∙ h 0 r refl) ∙ same_reg-refl r
 
-stand-next : (ins : List Reg) (from : ℕ) (r : Reg) (regs : List Reg) → StandFrom ins from (r ∷ regs) →
+pub stand-next : (ins : List Reg) (from : ℕ) (r : Reg) (regs : List Reg) → StandFrom ins from (r ∷ regs) →
     StandFrom ins (from + 1) regs
 stand-next ins from r regs h k q e =
     let same : from + suc k ≡ from + 1 + k = omega arith in
     subst (λ n. slice_get ins n ≡ Some q) same (h (suc k) q e)
 
 -- Outputs are tied as these places say.
-abbrev AreTied : List Reg → List Reg → List (Option ℕ) → Type 0
+abbrev pub AreTied : List Reg → List Reg → List (Option ℕ) → Type 0
 AreTied ins outs places = list_all (is_tied_to ins) (zip outs places) ≡ true
 
 untied : (ins : List Reg) (n : ℕ) (outs : List Reg) → AreTied ins outs (padded_ties n [])
@@ -61,7 +61,7 @@ one-tied ins r outs (suc n) next places here rest =
     ap (λ b. b && list_all (is_tied_to ins) (zip outs (padded_ties n places))) here ∙ rest n
 
 -- the places of an operand and of those behind it
-abbrev placed : Bool → Role → ℕ → (ℕ → List (Option ℕ)) → List (Option ℕ)
+abbrev pub placed : Bool → Role → ℕ → (ℕ → List (Option ℕ)) → List (Option ℕ)
 placed has r next behind =
     cond (cond has (is_picked pick.Tied r) false) (Some next ∷ behind (next + 1))
     (cond (cond has (is_picked pick.Written r) false) (None ∷ behind next) (behind next))
@@ -88,7 +88,7 @@ step-tied ins role.Base (Some r) tied written more n next behind h rest = rest n
 step-tied ins role.Back (Some r) tied written more n next behind h rest = rest n next h
 
 -- what stands behind all of them
-placed-append : (has : Bool) (r : Role) (next : ℕ) (behind : ℕ → List (Option ℕ)) (others : List (Option ℕ)) →
+pub placed-append : (has : Bool) (r : Role) (next : ℕ) (behind : ℕ → List (Option ℕ)) (others : List (Option ℕ)) →
     placed has r next behind ++ others ≡ placed has r next (λ from. behind from ++ others)
 placed-append false r next behind others = refl
 placed-append true role.In next behind others = refl
@@ -117,12 +117,12 @@ operands-tied ins (operand ∷ operands) (held ∷ helds) more others n next s h
     (λ m from g. operands-tied ins operands helds more others m from s.1 g rest)))
 
 -- the places of an operand among the bases that are written back
-abbrev based : Bool → Role → ℕ → (ℕ → List ℕ) → List ℕ
+abbrev pub based : Bool → Role → ℕ → (ℕ → List ℕ) → List ℕ
 based has r next behind =
     cond (cond has (is_picked pick.Back r) false) (next ∷ behind (next + 1))
     (cond (cond has (is_picked pick.Read r) false) (behind (next + 1)) (behind next))
 
-abbrev as_ties : List ℕ → List (Option ℕ)
+abbrev pub as_ties : List ℕ → List (Option ℕ)
 as_ties places = map (λ place. Some place) places
 
 abbrev BasesTied : List Reg → List Reg → List Reg → (ℕ → List ℕ) → Type 0
@@ -162,7 +162,7 @@ bases-tied ins (operand ∷ operands) (held ∷ helds) more n next s h =
     (λ m from g. bases-tied ins operands helds more m from s.1 g))
 
 -- what stands behind a list, and what stands in front
-behind-at : {A : Type 0} (front back : List A) (k : ℕ) → slice_get (front ++ back) (length front + k) ≡ slice_get back k
+pub behind-at : {A : Type 0} (front back : List A) (k : ℕ) → slice_get (front ++ back) (length front + k) ≡ slice_get back k
 behind-at [] back k = let same : 0 + k ≡ k = omega arith in ap (slice_get back) same
 behind-at (x ∷ front) back k =
     let same : suc (length front) + k ≡ suc (length front + k) = omega arith in
@@ -171,7 +171,7 @@ behind-at (x ∷ front) back k =
 tied-stand : (read tied more : List Reg) → StandFrom (read ++ (tied ++ more)) (length read) tied
 tied-stand read tied more k r e = behind-at read (tied ++ more) k ∙ slice_get-front tied more k r e
 
-read-stand : (read more : List Reg) → StandFrom (read ++ more) 0 read
+pub read-stand : (read more : List Reg) → StandFrom (read ++ more) 0 read
 read-stand read more k r e =
     let same : 0 + k ≡ k = omega arith in ap (slice_get (read ++ more)) same ∙ slice_get-front read more k r e
 

@@ -1,6 +1,6 @@
 -- Tests of tables, which the checker computes: a row writes what its meaning gives, and its
 -- instructions are known by their numbers. Source: this project's own.
-use Rattle.std.specs.Prelude.{ℕ, ◌*◌, ◌==◌, ◌%◌, ◌/◌, ◌^◌, Bool, true, false, zero, suc, not, unsigned_abs, List, [], ◌∷◌, ◌++◌, length, nat_le, nat_lt, if◌then◌else◌}
+use Rattle.std.specs.Prelude.{ℕ, ◌+◌, ◌*◌, ◌==◌, ◌%◌, ◌/◌, ◌^◌, Bool, true, false, zero, suc, not, unsigned_abs, List, [], ◌∷◌, ◌++◌, length, nat_le, nat_lt, if◌then◌else◌}
 use Rattle.std.specs.Str.{bytes_eq}
 use Rattle.sl_model.specs.declared.register.Bank.{Bank}
 use Rattle.sl_model.specs.declared.register.Bank.TheVariants as bank
@@ -19,6 +19,7 @@ use Rattle.sl_isa.specs.declared.meaning.Meaning.{Meaning}
 use Rattle.sl_isa.specs.declared.meaning.Meaning.TheVariants as meaning
 use Rattle.form_table.specs.Rows.{row_operands}
 use Rattle.form_table.specs.Printed.{has_number}
+use Rattle.form_table.specs.Tables.{spell_classes}
 use Rattle.form_table.specs.declared.rows.Range.{Range}
 use Rattle.form_table.specs.declared.rows.Operand.{Operand}
 use Rattle.form_table.specs.declared.rows.Alias.{Alias}
@@ -110,12 +111,15 @@ is_near (range ∷ ranges) =
 abbrev pub has_input : Row → ℕ → Bool
 has_input row place = nat_lt place (set_count (padded_classes 4 (input_classes row)))
 
--- Have a row's operands one base, behind as many others that are read as its place says?
+-- Have a row's operands one base, behind as many others that are read as its place says, and is
+-- nothing else read?
 abbrev pub has_base : Transfer → Row → Bool
 has_base t row =
     if bytes_eq (places_of pick.Base 0 (row_operands row)) (base_place t ∷ []) then
-    (if length (classes pick.Data (row_operands row)) == base_place t
+    (if length (classes pick.Data (row_operands row)) == base_place t then
+    (if length (input_classes row) == base_place t + 1
     then has_input row (base_place t)
+    else false)
     else false)
     else false
 
@@ -144,13 +148,16 @@ suits_meaning (meaning.Vector op) row = lacks_base row
 suits_meaning (meaning.Memory t) row = suits_transfer t row
 
 -- Is a row lawful: it has at most four inputs, writes what its meaning gives, has a base
--- where that is an access, and tells its own instructions by their numbers?
+-- where that is an access, tells its own instructions by their numbers, and spells the registers
+-- of its classes?
 abbrev pub is_lawful_row : Row → Bool
 is_lawful_row row =
     if nat_le (length (input_classes row)) 4 then
     (if are_only_of (banks_of row.meaning) (output_classes row) then
-    (if suits_meaning row.meaning row
-    then has_its_number row.alias (row_operands row)
+    (if suits_meaning row.meaning row then
+    (if has_its_number row.alias (row_operands row)
+    then spell_classes (row_operands row)
+    else false)
     else false)
     else false)
     else false

@@ -14,6 +14,7 @@ use Rattle.sl_isa.specs.declared.meaning.Meaning.TheVariants as meaning
 use Rattle.scalar_ops.specs.Scalar.{bits_of, scalar_values}
 use Rattle.lane_ops.specs.Vector.{vector_value}
 use Rattle.form_table.specs.Rows.{row_operands}
+use Rattle.form_table.specs.Symbols.{pairs_in}
 use Rattle.form_table.specs.Reads.{in_range, sum_suits, reads}
 use Rattle.form_table.specs.Printed.{has_number, printed}
 use Rattle.form_table.specs.declared.rows.Range.{Range}
@@ -127,6 +128,7 @@ table_isa name table = record {
 unfoldable pub table_language : ArchName → List Row → (CounterOp → Reg → ℕ → Instr) → Language
 table_language name table step_of = record {
   isa = table_isa name table;
+  pairs_in = pairs_in;
   reads = reads table;
   printed = printed table;
   step_of = step_of;

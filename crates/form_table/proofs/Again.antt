@@ -89,17 +89,17 @@ no_number None e = refl
 no_number (Some n) e = absurd cc
 
 -- where a list begins with a register, what stands behind it is one place on
-hold_next : (places : List (Option Reg)) (from : ℕ) (r : Reg) (regs : List Reg) → HoldFrom places from (r ∷ regs) → HoldFrom places (from + 1) regs
+pub hold_next : (places : List (Option Reg)) (from : ℕ) (r : Reg) (regs : List Reg) → HoldFrom places from (r ∷ regs) → HoldFrom places (from + 1) regs
 hold_next places from r regs h k q e =
     let same : from + suc k ≡ from + 1 + k = omega arith in
     subst (λ n. slice_index_or places n None ≡ Some q) same (h (suc k) q e)
 
-hold_first : (places : List (Option Reg)) (from : ℕ) (r : Reg) (regs : List Reg) → HoldFrom places from (r ∷ regs) → slice_index_or places from None ≡ Some r
+pub hold_first : (places : List (Option Reg)) (from : ℕ) (r : Reg) (regs : List Reg) → HoldFrom places from (r ∷ regs) → slice_index_or places from None ≡ Some r
 hold_first places from r regs h =
     let same : from + 0 ≡ from = omega arith in
     subst (λ n. slice_index_or places n None ≡ Some r) same (h 0 r refl)
 
-hold_same : (places : List (Option Reg)) (from : ℕ) (regs : List Reg) → HoldFrom places from regs → HoldFrom places (from + 0) regs
+pub hold_same : (places : List (Option Reg)) (from : ℕ) (regs : List Reg) → HoldFrom places from regs → HoldFrom places (from + 0) regs
 hold_same places from regs h = let same : from ≡ from + 0 = omega arith in subst (λ n. HoldFrom places n regs) same h
 
 numbers_next : (imms : List ℤ) (from : ℕ) (n : ℤ) (numbers : List ℤ) → NumbersFrom imms from (n ∷ numbers) → NumbersFrom imms (from + 1) numbers

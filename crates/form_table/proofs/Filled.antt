@@ -17,7 +17,7 @@ use Rattle.form_table.proofs.Again.{IsShaped, Shaped}
 use Rattle.form_table.proofs.SlotItems.{slot_item, slot_items, operand_items}
 use Rattle.form_table.proofs.Refill.{set_register, set_number, is_single, IsFront, front_is}
 
-single_first : (s : Shape) → is_single (slots_of slot.Gap s) ≡ true
+pub single_first : (s : Shape) → is_single (slots_of slot.Gap s) ≡ true
 single_first shape.Nothing = refl
 single_first (shape.Register letter) = refl
 single_first shape.Number = refl
@@ -166,7 +166,7 @@ fill_filled row items helds e =
       ),
     ))))))
 
-goes_on : {A B : Type 0} (f : A → Option B) (o : Option A) (x : A) (r : Option B) → o ≡ Some x → f x ≡ r → option_and_then f o ≡ r
+pub goes_on : {A B : Type 0} (f : A → Option B) (o : Option A) (x : A) (r : Option B) → o ≡ Some x → f x ≡ r → option_and_then f o ≡ r
 goes_on f o x r e g = ap (option_and_then f) e ∙ g
 
 -- What is printed of them fills the row with the same again.
@@ -190,7 +190,7 @@ there_or_none : {A : Type 0} (b : Bool) (o : Option A) → (b ≡ true → is_so
 there_or_none true o yes_there none = yes_there refl
 there_or_none false o yes_there none = ap is_some (none refl)
 
-fills_shaped : (operand : Operand) (held : Held) → Fills operand.shape held → IsShaped operand held
+pub fills_shaped : (operand : Operand) (held : Held) → Fills operand.shape held → IsShaped operand held
 fills_shaped operand held f = record {
   register = there_or_none (set_register (slots_of slot.Gap operand.shape)) held.register f.front.register_there f.front.register ∙ set_register_is operand.shape;
   number = there_or_none (set_number (slots_of slot.Gap operand.shape)) held.number f.front.number_there f.front.number ∙ set_number_is operand.shape;

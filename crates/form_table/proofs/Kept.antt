@@ -8,7 +8,8 @@ use Rattle.form_table.specs.Rows.{name_text, row_operands, slots_of}
 use Rattle.form_table.specs.Spells.{empty, put, front}
 use Rattle.form_table.specs.Reads.{held_at, is_zero, without_number, twice_first, settled}
 use Rattle.form_table.specs.Printed.{has_register}
-use Rattle.form_table.specs.Tables.{letter_code, same_slot, same_slots, same_spelling, same_spellings, is_left_of, same_without, twice_operands, is_own, is_kept_by, is_kept_at, has_kept, all_kept}
+use Rattle.form_table.specs.Symbols.{letter_code}
+use Rattle.form_table.specs.Tables.{same_slot, same_slots, same_spelling, same_spellings, is_left_of, same_without, twice_operands, is_own, is_kept_by, is_kept_at, has_kept, all_kept}
 use Rattle.form_table.specs.declared.rows.Letter.{Letter}
 use Rattle.form_table.specs.declared.rows.Letter.TheVariants as letter
 use Rattle.form_table.specs.declared.rows.Name.{Name}
@@ -75,7 +76,7 @@ name_again name.LaneH = refl
 name_again name.LaneS = refl
 name_again name.LaneD = refl
 
-same_letter : (a b : Letter) → letter_code a ≡ letter_code b → a ≡ b
+pub same_letter : (a b : Letter) → letter_code a ≡ letter_code b → a ≡ b
 same_letter a b e = sym (letter_again a) ∙ (ap letter_of e ∙ letter_again b)
 
 same_name : (a b : Name) → name_text a ≡ name_text b → a ≡ b

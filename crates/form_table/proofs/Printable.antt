@@ -2,12 +2,16 @@
 use Rattle.std.proofs.Common.{◌≡◌, ◌∙◌, sym, ap, subst, ℕ, ◌+◌, ◌^◌, ◌<◌, ◌≤◌, Bool, true, false, cond, List, [], ◌∷◌, length, arith, refl}
 use Rattle.std.specs.Prelude.{ℤ, pos, negsuc, Option, Some, None, is_some, int_le, nat_lt, nat_le, unsigned_abs}
 use Rattle.std.proofs.lemmas.Bool.{ltb-true, leb-true, le-leb}
+use Rattle.std.specs.List.{list_all}
 use Rattle.sl_model.specs.declared.register.Reg.{Reg}
+use Rattle.sl_isa.specs.Symbols.{Pair}
+use Rattle.form_table.proofs.Names.{knows_held}
 use Rattle.form_table.specs.Rows.{row_operands, mnemonic_text, slots_of}
 use Rattle.form_table.specs.Spells.{comma}
 use Rattle.form_table.specs.Reads.{is_picked, kept, picked, is_multiple, in_range, number_suits, numbers_suit}
 use Rattle.form_table.specs.Printed.{has_register, has_number, one_if}
-use Rattle.form_table.specs.Tables.{is_word_text, is_indexed, is_spelled, all_spelled, count_ins, count_outs, count_numbers, is_row}
+use Rattle.form_table.specs.Symbols.{is_word_text}
+use Rattle.form_table.specs.Tables.{is_indexed, is_spelled, all_spelled, count_ins, count_outs, count_numbers, is_row}
 use Rattle.form_table.specs.declared.rows.Slot.{Slot}
 use Rattle.form_table.specs.declared.rows.Slot.TheVariants as slot
 use Rattle.form_table.specs.declared.rows.Shape.{Shape}
@@ -242,10 +246,11 @@ row_is row e =
     }
 
 -- What fills a row, with numbers that it takes, can be printed.
-pub filled_printable : (row : Row) (helds : List Held) → is_row row ≡ true → numbers_suit (row_operands row) helds ≡ true → Filled (row_operands row) helds → IsPrintable row helds
-filled_printable row helds e suits f =
+pub filled_printable : (pairs : List Pair) (row : Row) (helds : List Held) → is_row row ≡ true → numbers_suit (row_operands row) helds ≡ true → Filled (row_operands row) helds
+    → list_all (knows_held pairs) helds ≡ true → IsPrintable pairs row helds
+filled_printable pairs row helds e suits f known =
     let r = row_is row e in
-    record { mnemonic = r.mnemonic; operands = shows_operands slot.Gap (row_operands row) helds (λ h. tt) r.spelled suits f }
+    record { mnemonic = r.mnemonic; operands = shows_operands slot.Gap (row_operands row) helds (λ h. tt) r.spelled suits f; known = known }
 
 -- And it has its places.
 pub filled_places : (row : Row) (helds : List Held) → is_row row ≡ true → Filled (row_operands row) helds → HasPlaces row helds

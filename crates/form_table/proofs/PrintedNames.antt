@@ -8,7 +8,7 @@ use Rattle.std.proofs.lemmas.Fmt.{decimal_by_steps}
 use Rattle.std.proofs.lemmas.Bool.Decides.{nat_tests}
 use Rattle.sl_model.specs.declared.register.Reg.{Reg}
 use Rattle.sl_model.specs.Token.{is_word_byte}
-use Rattle.form_table.specs.Tables.{is_word_text}
+use Rattle.form_table.specs.Symbols.{is_word_text}
 use Rattle.form_table.specs.Spells.{condition_names}
 use Rattle.form_table.specs.Printed.{is_stack, register_name, condition_text}
 use Rattle.form_table.specs.declared.rows.Letter.{Letter}

@@ -1,14 +1,15 @@
 -- What is printed for an instruction, as one list of slots with what each of them prints.
 use Rattle.std.proofs.Common.{◌≡◌, ◌∙◌, ap, refl, ℕ, ◌<◌, ◌^◌, ◌==◌, Bool, true, false, cond, List, [], ◌∷◌, ◌++◌, append_assoc, sym, subst, ◌&&◌, arith}
-use Rattle.std.specs.Prelude.{ℤ, pos, negsuc, unsigned_abs, Option, Some, None}
+use Rattle.std.specs.Prelude.{ℤ, pos, negsuc, unsigned_abs, slice_get, Option, Some, None}
 use Rattle.std.specs.List.{list_all}
 use Rattle.sl_model.specs.declared.register.Reg.{Reg}
 use Rattle.form_table.specs.Tables.{is_led}
-use Rattle.form_table.specs.Items.{Item}
+use Rattle.sl_isa.specs.Symbols.{Pair}
+use Rattle.form_table.specs.Items.{Item, word, symbol}
 use Rattle.form_table.specs.Rows.{row_operands, slots_of}
-use Rattle.form_table.specs.Spells.{comma}
-use Rattle.form_table.specs.Tables.{is_word_text}
-use Rattle.form_table.specs.Printed.{register_text, condition_text, slot_text, slots_text, operands_text}
+use Rattle.form_table.specs.Spells.{symbolic_reg, item_register, comma}
+use Rattle.form_table.specs.Symbols.{letter_code, letter_bank, is_word_text}
+use Rattle.form_table.specs.Printed.{register_name, condition_text, slot_text, slots_text, operands_text}
 use Rattle.form_table.specs.declared.rows.Letter.{Letter}
 use Rattle.form_table.specs.declared.rows.Slot.{Slot}
 use Rattle.form_table.specs.declared.rows.Slot.TheVariants as slot
@@ -17,9 +18,11 @@ use Rattle.form_table.specs.declared.rows.Shape.TheVariants as shape
 use Rattle.form_table.specs.declared.rows.Operand.{Operand}
 use Rattle.form_table.specs.declared.rows.Row.{Row}
 use Rattle.form_table.specs.declared.spells.Held.{Held}
-use Rattle.form_table.proofs.SlotItems.{slot_item, slot_items, operand_items, ShowsRegister, Shows, ShowsSlots, ShowsOperands, IsPrintable}
+use Rattle.form_table.proofs.Names.{knows_pair, knows_register, knows_optional, knows_held, HasName, name_of_number}
+use Rattle.form_table.proofs.SlotItems.{register_item, slot_item, slot_items, operand_items, Shows, ShowsSlots, ShowsOperands, IsPrintable}
 use Rattle.form_table.proofs.PrintedNames.{register_named, condition_named}
 use Rattle.std.proofs.lemmas.Bool.{and_parts}
+use Rattle.std.proofs.lemmas.Option.{cond_some}
 
 -- ---- slots with what each holds
 
@@ -39,43 +42,43 @@ row_pieces lead [] helds = []
 row_pieces lead (operand ∷ operands) [] = []
 row_pieces lead (operand ∷ operands) (held ∷ helds) = pieces_of held (slots_of lead operand.shape) ++ row_pieces comma operands helds
 
-abbrev pub pieces_text : List Piece → List ℕ
-pieces_text [] = []
-pieces_text (p ∷ ps) = slot_text p.held p.slot ++ pieces_text ps
+abbrev pub pieces_text : List Pair → List Piece → List ℕ
+pieces_text pairs [] = []
+pieces_text pairs (p ∷ ps) = slot_text pairs p.held p.slot ++ pieces_text pairs ps
 
 abbrev pub pieces_items : List Piece → List Item
 pieces_items [] = []
 pieces_items (p ∷ ps) = slot_item p.held p.slot ∷ pieces_items ps
 
-text_append : (ps qs : List Piece) → pieces_text (ps ++ qs) ≡ pieces_text ps ++ pieces_text qs
-text_append [] qs = refl
-text_append (p ∷ ps) qs =
-    ap (λ text. slot_text p.held p.slot ++ text) (text_append ps qs)
-    ∙ sym (append_assoc (slot_text p.held p.slot) (pieces_text ps) (pieces_text qs))
+text_append : (pairs : List Pair) (ps qs : List Piece) → pieces_text pairs (ps ++ qs) ≡ pieces_text pairs ps ++ pieces_text pairs qs
+text_append pairs [] qs = refl
+text_append pairs (p ∷ ps) qs =
+    ap (λ text. slot_text pairs p.held p.slot ++ text) (text_append pairs ps qs)
+    ∙ sym (append_assoc (slot_text pairs p.held p.slot) (pieces_text pairs ps) (pieces_text pairs qs))
 
 items_append : (ps qs : List Piece) → pieces_items (ps ++ qs) ≡ pieces_items ps ++ pieces_items qs
 items_append [] qs = refl
 items_append (p ∷ ps) qs = ap (λ items. slot_item p.held p.slot ∷ items) (items_append ps qs)
 
-slots_are : (held : Held) (slots : List Slot) → slots_text held slots ≡ pieces_text (pieces_of held slots)
+slots_are : (pairs : List Pair) (held : Held) (slots : List Slot) → slots_text pairs held slots ≡ pieces_text pairs (pieces_of held slots)
 unfolding slots_text
-slots_are held [] = refl
-slots_are held (s ∷ slots) = ap (λ text. slot_text held s ++ text) (slots_are held slots)
+slots_are pairs held [] = refl
+slots_are pairs held (s ∷ slots) = ap (λ text. slot_text pairs held s ++ text) (slots_are pairs held slots)
 
 slot_items_are : (held : Held) (slots : List Slot) → slot_items held slots ≡ pieces_items (pieces_of held slots)
 unfolding slot_items
 slot_items_are held [] = refl
 slot_items_are held (s ∷ slots) = ap (λ items. slot_item held s ∷ items) (slot_items_are held slots)
 
-pub text_is : (lead : Slot) (operands : List Operand) (helds : List Held) →
-    operands_text lead operands helds ≡ pieces_text (row_pieces lead operands helds)
+pub text_is : (pairs : List Pair) (lead : Slot) (operands : List Operand) (helds : List Held) →
+    operands_text pairs lead operands helds ≡ pieces_text pairs (row_pieces lead operands helds)
 unfolding operands_text
-text_is lead [] helds = refl
-text_is lead (operand ∷ operands) [] = refl
-text_is lead (operand ∷ operands) (held ∷ helds) =
-    ap (λ text. text ++ operands_text comma operands helds) (slots_are held (slots_of lead operand.shape))
-    ∙ (ap (λ text. pieces_text (pieces_of held (slots_of lead operand.shape)) ++ text) (text_is comma operands helds)
-    ∙ sym (text_append (pieces_of held (slots_of lead operand.shape)) (row_pieces comma operands helds)))
+text_is pairs lead [] helds = refl
+text_is pairs lead (operand ∷ operands) [] = refl
+text_is pairs lead (operand ∷ operands) (held ∷ helds) =
+    ap (λ text. text ++ operands_text pairs comma operands helds) (slots_are pairs held (slots_of lead operand.shape))
+    ∙ (ap (λ text. pieces_text pairs (pieces_of held (slots_of lead operand.shape)) ++ text) (text_is pairs comma operands helds)
+    ∙ sym (text_append pairs (pieces_of held (slots_of lead operand.shape)) (row_pieces comma operands helds)))
 
 pub items_are : (lead : Slot) (operands : List Operand) (helds : List Held) →
     operand_items lead operands helds ≡ pieces_items (row_pieces lead operands helds)
@@ -140,24 +143,33 @@ IsIndex None = ⊥
 IsIndex (Some (pos n)) = n < 2 ^ 32
 IsIndex (Some (negsuc n)) = ⊥
 
--- What a slot prints is read again as one item.
-abbrev pub Fits : Held → Slot → Type 0
-Fits held slot.Gap = Unit {0}
-Fits held (slot.Mark code) = is_printed_mark code ≡ true
-Fits held (slot.Name n) = Unit {0}
-Fits held (slot.Register letter) = is_word_text (register_text letter held.register) ≡ true
-Fits held slot.Number = IsSmall held.number
-Fits held slot.Index = IsIndex held.number
-Fits held slot.Condition = is_word_text (condition_text held.number) ≡ true
+-- A register, which is symbolic or not, has a name that is a word.
+abbrev pub FitsBy : List Pair → Letter → Reg → Bool → Type 0
+FitsBy pairs letter r true = HasName pairs (letter_bank letter) r.number
+FitsBy pairs letter r false = is_word_text (register_name letter r) ≡ true
 
-abbrev pub AllFit : List Piece → Type 0
-AllFit [] = Unit {0}
-AllFit (p ∷ ps) = Fits p.held p.slot × AllFit ps
+abbrev pub FitsRegister : List Pair → Letter → Option Reg → Type 0
+FitsRegister pairs letter None = ⊥
+FitsRegister pairs letter (Some r) = FitsBy pairs letter r r.symbolic
+
+-- What a slot prints is read again as one item.
+abbrev pub Fits : List Pair → Held → Slot → Type 0
+Fits pairs held slot.Gap = Unit {0}
+Fits pairs held (slot.Mark code) = is_printed_mark code ≡ true
+Fits pairs held (slot.Name n) = Unit {0}
+Fits pairs held (slot.Register letter) = FitsRegister pairs letter held.register
+Fits pairs held slot.Number = IsSmall held.number
+Fits pairs held slot.Index = IsIndex held.number
+Fits pairs held slot.Condition = is_word_text (condition_text held.number) ≡ true
+
+abbrev pub AllFit : List Pair → List Piece → Type 0
+AllFit pairs [] = Unit {0}
+AllFit pairs (p ∷ ps) = Fits pairs p.held p.slot × AllFit pairs ps
 
 -- pieces that may stand behind something
-pub record Good (before : Before) (ps : List Piece) : Type 0 where
+pub record Good (pairs : List Pair) (before : Before) (ps : List Piece) : Type 0 where
   pub flow : flows before ps ≡ true
-  pub fit : AllFit ps
+  pub fit : AllFit pairs ps
 
 -- ---- slots that show what they say fit
 
@@ -183,35 +195,50 @@ all_known lead (shape.Base letter) e = ap (λ b. b && true) e
 all_known lead (shape.Offset letter) e = ap (λ b. b && true) e
 all_known lead (shape.Before letter) e = ap (λ b. b && true) e
 
-register_fits : (letter : Letter) (o : Option Reg) → ShowsRegister letter o → is_word_text (register_text letter o) ≡ true
-register_fits letter o shown =
-    let bound : shown.register.number < 2 ^ 64 = omega (arith, shown.small) in
-    subst (λ r. is_word_text (register_text letter r) ≡ true) (sym shown.is) (register_named letter shown.register bound)
+-- a symbolic register that is read as itself is of its letter's bank
+symbolic_bank : (letter : Letter) (r : Reg) → r.symbolic ≡ true → item_register letter (register_item letter (Some r)) ≡ Some r → r.bank ≡ letter_bank letter
+unfolding item_register
+symbolic_bank letter r symbolic named =
+    let item : register_item letter (Some r) ≡ symbol letter r.number = ap (λ b. cond b (symbol letter r.number) (word (register_name letter r))) symbolic in
+    let found : item_register letter (symbol letter r.number) ≡ Some r = sym (ap (item_register letter) item) ∙ named in
+    let same : symbolic_reg letter r.number ≡ r = (cond_some (letter_code letter == letter_code letter) (symbolic_reg letter r.number) r found).1 in
+    ap (λ (q : Reg). q.bank) (sym same)
 
-shown_fits : (held : Held) (s : Slot) → Shows held s → is_known s ≡ true → Fits held s
-shown_fits held slot.Gap shown known = tt
-shown_fits held (slot.Mark code) shown known = known
-shown_fits held (slot.Name n) shown known = tt
-shown_fits held (slot.Register letter) shown known = register_fits letter held.register shown
-shown_fits held slot.Number shown known = subst IsSmall (sym shown.is) shown.small
-shown_fits held slot.Index shown known = subst IsIndex (sym shown.is) shown.small
-shown_fits held slot.Condition shown known =
+register_fits : (pairs : List Pair) (letter : Letter) (r : Reg) → item_register letter (register_item letter (Some r)) ≡ Some r → (r.symbolic ≡ false → r.number < 32)
+    → knows_register pairs r ≡ true → FitsBy pairs letter r r.symbolic
+register_fits pairs letter r named small known = by r.symbolic refl known
+  where
+    by : (b : Bool) → r.symbolic ≡ b → cond b (knows_pair pairs r.bank r.number (slice_get pairs r.number)) true ≡ true → FitsBy pairs letter r b
+    by true is known = subst (λ bank. HasName pairs bank r.number) (symbolic_bank letter r is named) (name_of_number pairs r.bank r.number known)
+    by false is known = let least = small is in let bound : r.number < 2 ^ 64 = omega (arith, least) in register_named letter r bound
+
+shown_fits : (pairs : List Pair) (held : Held) (s : Slot) → Shows held s → is_known s ≡ true → knows_held pairs held ≡ true → Fits pairs held s
+shown_fits pairs held slot.Gap shown known names = tt
+shown_fits pairs held (slot.Mark code) shown known names = known
+shown_fits pairs held (slot.Name n) shown known names = tt
+shown_fits pairs held (slot.Register letter) shown known names =
+    subst (FitsRegister pairs letter) (sym shown.is)
+    (register_fits pairs letter shown.register shown.named shown.small (ap (knows_optional pairs) (sym shown.is) ∙ names))
+shown_fits pairs held slot.Number shown known names = subst IsSmall (sym shown.is) shown.small
+shown_fits pairs held slot.Index shown known names = subst IsIndex (sym shown.is) shown.small
+shown_fits pairs held slot.Condition shown known names =
     subst (λ o. is_word_text (condition_text o) ≡ true) (sym shown.is) (condition_named shown.number shown.small)
 
-slots_fit : (held : Held) (slots : List Slot) (ps : List Piece) → ShowsSlots held slots → list_all is_known slots ≡ true →
-    AllFit ps → AllFit (pieces_of held slots ++ ps)
-slots_fit held [] ps shown known fit = fit
-slots_fit held (s ∷ slots) ps shown known fit =
+slots_fit : (pairs : List Pair) (held : Held) (slots : List Slot) (ps : List Piece) → ShowsSlots held slots → list_all is_known slots ≡ true → knows_held pairs held ≡ true
+    → AllFit pairs ps → AllFit pairs (pieces_of held slots ++ ps)
+slots_fit pairs held [] ps shown known names fit = fit
+slots_fit pairs held (s ∷ slots) ps shown known names fit =
     let parts = and_parts (is_known s) (list_all is_known slots) known in
-    (shown_fits held s shown.0 parts.0, slots_fit held slots ps shown.1 parts.1 fit)
+    (shown_fits pairs held s shown.0 parts.0 names, slots_fit pairs held slots ps shown.1 parts.1 names fit)
 
-operands_fit : (lead : Slot) (operands : List Operand) (helds : List Held) → is_known lead ≡ true →
-    ShowsOperands lead operands helds → AllFit (row_pieces lead operands helds)
-operands_fit lead [] helds known shown = tt
-operands_fit lead (operand ∷ operands) [] known shown = tt
-operands_fit lead (operand ∷ operands) (held ∷ helds) known shown =
-    slots_fit held (slots_of lead operand.shape) (row_pieces comma operands helds) shown.0 (all_known lead operand.shape known)
-    (operands_fit comma operands helds refl shown.1)
+operands_fit : (pairs : List Pair) (lead : Slot) (operands : List Operand) (helds : List Held) → is_known lead ≡ true
+    → ShowsOperands lead operands helds → list_all (knows_held pairs) helds ≡ true → AllFit pairs (row_pieces lead operands helds)
+operands_fit pairs lead [] helds known shown names = tt
+operands_fit pairs lead (operand ∷ operands) [] known shown names = tt
+operands_fit pairs lead (operand ∷ operands) (held ∷ helds) known shown names =
+    let parts = and_parts (knows_held pairs held) (list_all (knows_held pairs) helds) names in
+    slots_fit pairs held (slots_of lead operand.shape) (row_pieces comma operands helds) shown.0 (all_known lead operand.shape known) parts.0
+    (operands_fit pairs comma operands helds refl shown.1 parts.1)
 
 -- ---- the slots of operands may stand in their order
 
@@ -259,13 +286,13 @@ row_flows row (held ∷ helds) e =
     first_flows row.first.shape held _ e (λ next f. operands_flow next (row.second ∷ row.third ∷ row.fourth ∷ row.fifth ∷ []) helds f)
 
 -- What the slots of a row's operands print fits.
-pub row_fits : (row : Row) (helds : List Held) → IsPrintable row helds → AllFit (row_pieces slot.Gap (row_operands row) helds)
-row_fits row helds printable = operands_fit slot.Gap (row_operands row) helds refl printable.operands
+pub row_fits : (pairs : List Pair) (row : Row) (helds : List Held) → IsPrintable pairs row helds → AllFit pairs (row_pieces slot.Gap (row_operands row) helds)
+row_fits pairs row helds printable = operands_fit pairs slot.Gap (row_operands row) helds refl printable.operands printable.known
 
 -- what is printed for the operands of a row
-pub row_good : (row : Row) (helds : List Held) → is_led row.first.shape ≡ true → IsPrintable row helds →
-    Good name (row_pieces slot.Gap (row_operands row) helds)
-row_good row helds led printable = record {
+pub row_good : (pairs : List Pair) (row : Row) (helds : List Held) → is_led row.first.shape ≡ true → IsPrintable pairs row helds →
+    Good pairs name (row_pieces slot.Gap (row_operands row) helds)
+row_good pairs row helds led printable = record {
   flow = row_flows row helds led;
-  fit = row_fits row helds printable;
+  fit = row_fits pairs row helds printable;
 }

@@ -12,7 +12,7 @@ use Rattle.sl_model.specs.declared.text.TokenKind.{TokenKind}
 use Rattle.sl_model.specs.declared.text.TokenKind.TheVariants.{Word, Number, Mark, Comment}
 use Rattle.sl_model.specs.Text.{is_blank}
 use Rattle.sl_model.specs.Token.{Lexeme, begins_word, is_word_byte, comment_length, begins_line_comment, first_char, first_token, lexeme, tokens_from}
-use Rattle.form_table.specs.Tables.{is_word_text}
+use Rattle.form_table.specs.Symbols.{is_word_text}
 use Rattle.sl_laws.proofs.Tests.{then_parts}
 use Rattle.sl_laws.proofs.Texts.{begin_word, digit_alphanumeric}
 use Rattle.std.proofs.lemmas.Bool.{and_parts}

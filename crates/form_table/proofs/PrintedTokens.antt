@@ -1,13 +1,18 @@
 -- The tokens that a printed instruction gives, slot by slot.
 use Rattle.std.proofs.Common.{◌≡◌, ◌∙◌, sym, ap, refl, ℕ, suc, ◌+◌, ◌<◌, ◌^◌, ◌==◌, Bool, true, false, cond, List, [], ◌∷◌, ◌++◌, length, length-append, append_assoc, subst, eqb-true, arith}
-use Rattle.std.specs.Prelude.{ℤ, pos, negsuc, Option, Some, None}
+use Rattle.std.specs.Prelude.{ℤ, pos, negsuc, slice_get, Option, Some, None}
 use Rattle.std.specs.Fmt.{decimal}
 use Rattle.sl_model.specs.declared.text.Comments.{Comments}
 use Rattle.sl_model.specs.declared.text.TokenKind.{TokenKind}
 use Rattle.sl_model.specs.declared.text.TokenKind.TheVariants.{Word, Number, Mark}
 use Rattle.sl_model.specs.Token.{Lexeme, tokens_from}
 use Rattle.form_table.specs.Rows.{name_text}
-use Rattle.form_table.specs.Printed.{register_text, number_text, condition_text, slot_text}
+use Rattle.sl_model.specs.declared.register.Reg.{Reg}
+use Rattle.sl_isa.specs.Symbols.{Pair}
+use Rattle.form_table.specs.Symbols.{letter_code, is_word_text}
+use Rattle.form_table.specs.Printed.{register_name, symbol_name, register_text, number_text, condition_text, slot_text}
+use Rattle.form_table.specs.declared.rows.Letter.{Letter}
+use Rattle.form_table.specs.declared.rows.Letter.TheVariants as letter
 use Rattle.form_table.specs.declared.rows.Name.{Name}
 use Rattle.form_table.specs.declared.rows.Name.TheVariants as word
 use Rattle.form_table.specs.declared.rows.Slot.{Slot}
@@ -15,7 +20,7 @@ use Rattle.form_table.specs.declared.rows.Slot.TheVariants as slot
 use Rattle.form_table.specs.declared.spells.Held.{Held}
 use Rattle.form_table.proofs.PrintedRuns.{stops, token, IsMark, word_read, run_read, mark_read, blank_passed}
 use Rattle.form_table.proofs.PrintedNames.{decimal_run}
-use Rattle.form_table.proofs.PrintedPieces.{IsSmall, IsIndex, Piece, pieces_text, Before, name, mark, blank, behind, may_follow, flows, is_printed_mark, Fits, Good}
+use Rattle.form_table.proofs.PrintedPieces.{IsSmall, IsIndex, Piece, pieces_text, Before, name, mark, blank, behind, may_follow, flows, is_printed_mark, FitsBy, FitsRegister, Fits, Good}
 use Rattle.sl_laws.proofs.Tests.{then_parts}
 
 -- ---- the tokens
@@ -43,19 +48,38 @@ number_tokens place None = []
 number_tokens place (Some (pos n)) = token Number (decimal n) place ∷ []
 number_tokens place (Some (negsuc n)) = token Mark (45 ∷ []) place ∷ token Number (decimal (suc n)) (place + 1) ∷ []
 
--- those of a slot at a place
-abbrev pub slot_tokens : ℕ → Held → Slot → List Lexeme
-slot_tokens place held slot.Gap = []
-slot_tokens place held (slot.Mark code) = token Mark (code ∷ []) place ∷ []
-slot_tokens place held (slot.Name n) = token (name_kind n) (name_text n) place ∷ []
-slot_tokens place held (slot.Register letter) = token Word (register_text letter held.register) place ∷ []
-slot_tokens place held slot.Number = token Mark (35 ∷ []) place ∷ number_tokens (place + 1) held.number
-slot_tokens place held slot.Index = number_tokens place held.number
-slot_tokens place held slot.Condition = token Word (condition_text held.number) place ∷ []
+-- those of a symbolic register with a name
+abbrev pub symbol_tokens : ℕ → Letter → List ℕ → List Lexeme
+symbol_tokens place letter text =
+    token Word (letter_code letter ∷ []) place ∷ token Mark (60 ∷ []) (place + 1) ∷ token Word text (place + 1 + 1)
+    ∷ token Mark (62 ∷ []) (place + 1 + 1 + length text) ∷ []
 
-abbrev pub pieces_tokens : ℕ → List Piece → List Lexeme
-pieces_tokens place [] = []
-pieces_tokens place (p ∷ ps) = slot_tokens place p.held p.slot ++ pieces_tokens (place + length (slot_text p.held p.slot)) ps
+abbrev pub named_tokens : ℕ → Letter → Option Pair → List Lexeme
+named_tokens place letter None = []
+named_tokens place letter (Some pair) = symbol_tokens place letter pair.1
+
+-- those of a register, which is symbolic or not
+abbrev pub tokens_by : List Pair → ℕ → Letter → Reg → Bool → List Lexeme
+tokens_by pairs place letter r true = named_tokens place letter (slice_get pairs r.number)
+tokens_by pairs place letter r false = token Word (register_name letter r) place ∷ []
+
+abbrev pub register_tokens : List Pair → ℕ → Letter → Option Reg → List Lexeme
+register_tokens pairs place letter None = []
+register_tokens pairs place letter (Some r) = tokens_by pairs place letter r r.symbolic
+
+-- those of a slot at a place
+abbrev pub slot_tokens : List Pair → ℕ → Held → Slot → List Lexeme
+slot_tokens pairs place held slot.Gap = []
+slot_tokens pairs place held (slot.Mark code) = token Mark (code ∷ []) place ∷ []
+slot_tokens pairs place held (slot.Name n) = token (name_kind n) (name_text n) place ∷ []
+slot_tokens pairs place held (slot.Register letter) = register_tokens pairs place letter held.register
+slot_tokens pairs place held slot.Number = token Mark (35 ∷ []) place ∷ number_tokens (place + 1) held.number
+slot_tokens pairs place held slot.Index = number_tokens place held.number
+slot_tokens pairs place held slot.Condition = token Word (condition_text held.number) place ∷ []
+
+abbrev pub pieces_tokens : List Pair → ℕ → List Piece → List Lexeme
+pieces_tokens pairs place [] = []
+pieces_tokens pairs place (p ∷ ps) = slot_tokens pairs place p.held p.slot ++ pieces_tokens pairs (place + length (slot_text pairs p.held p.slot)) ps
 
 -- ---- from text to tokens
 
@@ -107,6 +131,12 @@ is_93 = record { opens = record { ascii = omega arith; slash = refl; at = refl; 
 is_33 : IsMark 33
 is_33 = record { opens = record { ascii = omega arith; slash = refl; at = refl; blank = refl }; no_word = refl; no_digit = refl }
 
+is_60 : IsMark 60
+is_60 = record { opens = record { ascii = omega arith; slash = refl; at = refl; blank = refl }; no_word = refl; no_digit = refl }
+
+is_62 : IsMark 62
+is_62 = record { opens = record { ascii = omega arith; slash = refl; at = refl; blank = refl }; no_word = refl; no_digit = refl }
+
 is_35 : IsMark 35
 is_35 = record { opens = record { ascii = omega arith; slash = refl; at = refl; blank = refl }; no_word = refl; no_digit = refl }
 
@@ -151,11 +181,11 @@ comma_gives comments place more =
     ∙ ap (λ rest. token Mark (44 ∷ []) place ∷ rest)
     (blank_passed comments (place + 1) more ∙ ap (λ end. tokens_from comments end 0 more) same)
 
-mark_gives : (comments : Comments) (place : ℕ) (held : Held) (more : List ℕ) (code : ℕ) → is_printed_mark code ≡ true →
-    AreTokens comments place (slot_text held (slot.Mark code)) (token Mark (code ∷ []) place ∷ []) more
+mark_gives : (comments : Comments) (pairs : List Pair) (place : ℕ) (held : Held) (more : List ℕ) (code : ℕ) → is_printed_mark code ≡ true →
+    AreTokens comments place (slot_text pairs held (slot.Mark code)) (token Mark (code ∷ []) place ∷ []) more
 unfolding slot_text
-mark_gives comments place held more code is =
-    mark_cases (λ c. AreTokens comments place (slot_text held (slot.Mark c)) (token Mark (c ∷ []) place ∷ []) more)
+mark_gives comments pairs place held more code is =
+    mark_cases (λ c. AreTokens comments place (slot_text pairs held (slot.Mark c)) (token Mark (c ∷ []) place ∷ []) more)
     (mark_read comments place 46 more is_46) (comma_gives comments place more) (mark_read comments place 91 more is_91)
     (mark_read comments place 93 more is_93) (mark_read comments place 33 more is_33) code is
 
@@ -177,62 +207,104 @@ name_gives comments place word.LaneH more ends = word_read comments place (name_
 name_gives comments place word.LaneS more ends = word_read comments place (name_text word.LaneS) more refl ends
 name_gives comments place word.LaneD more ends = word_read comments place (name_text word.LaneD) more refl ends
 
+-- a letter is a word
+letter_word : (l : Letter) → is_word_text (letter_code l ∷ []) ≡ true
+letter_word letter.X = refl
+letter_word letter.W = refl
+letter_word letter.V = refl
+letter_word letter.Q = refl
+letter_word letter.D = refl
+letter_word letter.S = refl
+letter_word letter.R = refl
+
+symbol_gives : (comments : Comments) (place : ℕ) (l : Letter) (pair : Pair) (more : List ℕ) → is_word_text pair.1 ≡ true →
+    AreTokens comments place (symbol_name l (Some pair)) (symbol_tokens place l pair.1) more
+unfolding symbol_name
+symbol_gives comments place l pair more is_word =
+    let text : List ℕ = pair.1 in
+    let inner : List ℕ = text ++ 62 ∷ [] in
+    let joined : inner ++ more ≡ text ++ 62 ∷ more = append_assoc text (62 ∷ []) more in
+    let sum : length inner ≡ length text + 1 = length-append text (62 ∷ []) in
+    let same : place + 1 + 1 + length text + 1 ≡ place + suc (suc (length inner)) = omega (arith, sum) in
+    word_read comments place (letter_code l ∷ []) (60 ∷ (inner ++ more)) (letter_word l) refl
+    ∙ ap (λ rest. token Word (letter_code l ∷ []) place ∷ rest)
+    (mark_read comments (place + 1) 60 (inner ++ more) is_60
+    ∙ ap (λ rest. token Mark (60 ∷ []) (place + 1) ∷ rest)
+    (ap (tokens_from comments (place + 1 + 1) 0) joined
+    ∙ (word_read comments (place + 1 + 1) text (62 ∷ more) is_word refl
+    ∙ ap (λ rest. token Word text (place + 1 + 1) ∷ rest)
+    (mark_read comments (place + 1 + 1 + length text) 62 more is_62
+    ∙ ap (λ end. token Mark (62 ∷ []) (place + 1 + 1 + length text) ∷ tokens_from comments end 0 more) same))))
+
+register_gives : (comments : Comments) (pairs : List Pair) (place : ℕ) (l : Letter) (o : Option Reg) (more : List ℕ) → FitsRegister pairs l o → stops more ≡ true →
+    AreTokens comments place (register_text pairs l o) (register_tokens pairs place l o) more
+register_gives comments pairs place l None more fit ends = absurd fit
+register_gives comments pairs place l (Some r) more fit ends = by r.symbolic fit
+  where
+    by : (b : Bool) → FitsBy pairs l r b → AreTokens comments place (cond b (symbol_name l (slice_get pairs r.number)) (register_name l r)) (tokens_by pairs place l r b) more
+    by true fit =
+        subst (λ o. AreTokens comments place (symbol_name l o) (named_tokens place l o) more) (sym fit.at)
+        (symbol_gives comments place l fit.pair more fit.is_word)
+    by false fit = word_read comments place (register_name l r) more fit ends
+
 -- Does what a slot prints end where a text begins?
 abbrev ends_before : Before → List ℕ → Bool
 ends_before name more = stops more
 ends_before mark more = true
 ends_before blank more = true
 
-slot_gives : (comments : Comments) (place : ℕ) (held : Held) (s : Slot) (more : List ℕ) → Fits held s →
+slot_gives : (comments : Comments) (pairs : List Pair) (place : ℕ) (held : Held) (s : Slot) (more : List ℕ) → Fits pairs held s →
     ends_before (behind s) more ≡ true →
-    AreTokens comments place (slot_text held s) (slot_tokens place held s) more
+    AreTokens comments place (slot_text pairs held s) (slot_tokens pairs place held s) more
 unfolding slot_text
-slot_gives comments place held slot.Gap more fit ends = blank_passed comments place more
-slot_gives comments place held (slot.Mark code) more fit ends = mark_gives comments place held more code fit
-slot_gives comments place held (slot.Name n) more fit ends = name_gives comments place n more ends
-slot_gives comments place held (slot.Register letter) more fit ends = word_read comments place (register_text letter held.register) more fit ends
-slot_gives comments place held slot.Number more fit ends = hash_gives comments place held.number more fit ends
-slot_gives comments place held slot.Index more fit ends = number_gives comments place held.number more (index_small held.number fit) ends
-slot_gives comments place held slot.Condition more fit ends = word_read comments place (condition_text held.number) more fit ends
+slot_gives comments pairs place held slot.Gap more fit ends = blank_passed comments place more
+slot_gives comments pairs place held (slot.Mark code) more fit ends = mark_gives comments pairs place held more code fit
+slot_gives comments pairs place held (slot.Name n) more fit ends = name_gives comments place n more ends
+slot_gives comments pairs place held (slot.Register l) more fit ends = register_gives comments pairs place l held.register more fit ends
+slot_gives comments pairs place held slot.Number more fit ends = hash_gives comments place held.number more fit ends
+slot_gives comments pairs place held slot.Index more fit ends = number_gives comments place held.number more (index_small held.number fit) ends
+slot_gives comments pairs place held slot.Condition more fit ends = word_read comments place (condition_text held.number) more fit ends
 
 -- what stands behind a word or a number does not go on with it
-slot_stops : (held : Held) (s : Slot) (more : List ℕ) → may_follow name (behind s) ≡ true → Fits held s →
-    stops (slot_text held s ++ more) ≡ true
+slot_stops : (pairs : List Pair) (held : Held) (s : Slot) (more : List ℕ) → may_follow name (behind s) ≡ true → Fits pairs held s →
+    stops (slot_text pairs held s ++ more) ≡ true
 unfolding slot_text
-slot_stops held slot.Gap more may fit = refl
-slot_stops held (slot.Mark code) more may fit =
-    mark_cases (λ c. stops (slot_text held (slot.Mark c) ++ more) ≡ true) refl refl refl refl refl code fit
-slot_stops held (slot.Name n) more may fit = absurd cc
-slot_stops held (slot.Register letter) more may fit = absurd cc
-slot_stops held slot.Number more may fit = absurd cc
-slot_stops held slot.Index more may fit = absurd cc
-slot_stops held slot.Condition more may fit = absurd cc
+slot_stops pairs held slot.Gap more may fit = refl
+slot_stops pairs held (slot.Mark code) more may fit =
+    mark_cases (λ c. stops (slot_text pairs held (slot.Mark c) ++ more) ≡ true) refl refl refl refl refl code fit
+slot_stops pairs held (slot.Name n) more may fit = absurd cc
+slot_stops pairs held (slot.Register letter) more may fit = absurd cc
+slot_stops pairs held slot.Number more may fit = absurd cc
+slot_stops pairs held slot.Index more may fit = absurd cc
+slot_stops pairs held slot.Condition more may fit = absurd cc
 
-pub pieces_stop : (before : Before) (ps : List Piece) (more : List ℕ) → Good before ps → stops more ≡ true →
-    ends_before before (pieces_text ps ++ more) ≡ true
-pieces_stop mark ps more good ends = refl
-pieces_stop blank ps more good ends = refl
-pieces_stop name [] more good ends = ends
-pieces_stop name (p ∷ ps) more good ends =
+pub pieces_stop : (pairs : List Pair) (before : Before) (ps : List Piece) (more : List ℕ) → Good pairs before ps → stops more ≡ true →
+    ends_before before (pieces_text pairs ps ++ more) ≡ true
+pieces_stop pairs mark ps more good ends = refl
+pieces_stop pairs blank ps more good ends = refl
+pieces_stop pairs name [] more good ends = ends
+pieces_stop pairs name (p ∷ ps) more good ends =
     let parts = then_parts (may_follow name (behind p.slot)) (flows (behind p.slot) ps) good.flow in
-    ap stops (append_assoc (slot_text p.held p.slot) (pieces_text ps) more) ∙ slot_stops p.held p.slot (pieces_text ps ++ more) parts.0 good.fit.0
+    ap stops (append_assoc (slot_text pairs p.held p.slot) (pieces_text pairs ps) more)
+    ∙ slot_stops pairs p.held p.slot (pieces_text pairs ps ++ more) parts.0 good.fit.0
 
 -- pieces give their tokens
-pub pieces_give : (comments : Comments) (place : ℕ) (before : Before) (ps : List Piece) (more : List ℕ) → Good before ps →
+pub pieces_give : (comments : Comments) (pairs : List Pair) (place : ℕ) (before : Before) (ps : List Piece) (more : List ℕ) → Good pairs before ps →
     stops more ≡ true →
-    tokens_from comments place 0 (pieces_text ps ++ more) ≡ pieces_tokens place ps ++ tokens_from comments (place + length (pieces_text ps)) 0 more
-pieces_give comments place before [] more good ends = let same : place ≡ place + 0 = omega arith in ap (λ n. tokens_from comments n 0 more) same
-pieces_give comments place before (p ∷ ps) more good ends =
+    tokens_from comments place 0 (pieces_text pairs ps ++ more) ≡ pieces_tokens pairs place ps ++ tokens_from comments (place + length (pieces_text pairs ps)) 0 more
+pieces_give comments pairs place before [] more good ends = let same : place ≡ place + 0 = omega arith in ap (λ n. tokens_from comments n 0 more) same
+pieces_give comments pairs place before (p ∷ ps) more good ends =
     let parts = then_parts (may_follow before (behind p.slot)) (flows (behind p.slot) ps) good.flow in
-    let later : Good (behind p.slot) ps = record { flow = parts.1; fit = good.fit.1 } in
-    let text : List ℕ = slot_text p.held p.slot in
+    let later : Good pairs (behind p.slot) ps = record { flow = parts.1; fit = good.fit.1 } in
+    let text : List ℕ = slot_text pairs p.held p.slot in
+    let others : List ℕ = pieces_text pairs ps in
     let next : ℕ = place + length text in
-    let first = slot_gives comments place p.held p.slot (pieces_text ps ++ more) good.fit.0 (pieces_stop (behind p.slot) ps more later ends) in
-    let rest = pieces_give comments next (behind p.slot) ps more later ends in
-    let sum : length (text ++ pieces_text ps) ≡ length text + length (pieces_text ps) = length-append text (pieces_text ps) in
-    let same : place + length text + length (pieces_text ps) ≡ place + length (text ++ pieces_text ps) = omega (arith, sum) in
-    ap (λ t. tokens_from comments place 0 t) (append_assoc text (pieces_text ps) more)
-    ∙ (first ∙ (ap (λ tokens. slot_tokens place p.held p.slot ++ tokens)
-    (rest ∙ ap (λ end. pieces_tokens next ps ++ tokens_from comments end 0 more) same)
-    ∙ sym (append_assoc (slot_tokens place p.held p.slot) (pieces_tokens next ps)
-    (tokens_from comments (place + length (text ++ pieces_text ps)) 0 more))))
+    let first = slot_gives comments pairs place p.held p.slot (others ++ more) good.fit.0 (pieces_stop pairs (behind p.slot) ps more later ends) in
+    let rest = pieces_give comments pairs next (behind p.slot) ps more later ends in
+    let sum : length (text ++ others) ≡ length text + length others = length-append text others in
+    let same : place + length text + length others ≡ place + length (text ++ others) = omega (arith, sum) in
+    ap (λ t. tokens_from comments place 0 t) (append_assoc text others more)
+    ∙ (first ∙ (ap (λ tokens. slot_tokens pairs place p.held p.slot ++ tokens)
+    (rest ∙ ap (λ end. pieces_tokens pairs next ps ++ tokens_from comments end 0 more) same)
+    ∙ sym (append_assoc (slot_tokens pairs place p.held p.slot) (pieces_tokens pairs next ps)
+    (tokens_from comments (place + length (text ++ others)) 0 more))))

@@ -8,15 +8,15 @@ use Rattle.std.proofs.lemmas.Option.{option_and_then_some, cond_some, same_Some}
 use Rattle.sl_model.specs.declared.register.Reg.{Reg}
 use Rattle.form_table.specs.Items.{Item}
 use Rattle.form_table.specs.Rows.{name_text}
-use Rattle.form_table.specs.Spells.{Taken, register_of, condition_of, word_in, number_in, is_gap, is_mark_of, put, front}
-use Rattle.form_table.specs.Printed.{register_text, condition_text}
+use Rattle.form_table.specs.Spells.{Taken, item_register, condition_of, word_in, number_in, is_gap, is_mark_of, put, front}
+use Rattle.form_table.specs.Printed.{condition_text}
 use Rattle.form_table.specs.declared.rows.Letter.{Letter}
 use Rattle.form_table.specs.declared.rows.Name.{Name}
 use Rattle.form_table.specs.declared.rows.Slot.{Slot}
 use Rattle.form_table.specs.declared.rows.Slot.TheVariants as slot
 use Rattle.form_table.specs.declared.spells.Held.{Held}
 use Rattle.form_table.proofs.Unique.{lower_same}
-use Rattle.form_table.proofs.SlotItems.{slot_item, slot_items, ShowsRegister, ShowsCondition}
+use Rattle.form_table.proofs.SlotItems.{register_item, slot_item, slot_items, ShowsRegister, ShowsCondition}
 use Rattle.form_table.proofs.Named.{register_is_read, condition_is_read}
 use Rattle.sl_laws.proofs.Tests.{else_parts, neither_parts}
 
@@ -82,7 +82,7 @@ pub record IsPut (held next : Held) (s : Slot) : Type 0 where
   pub again : (final : Held) → Keeps s next final → put held s (slot_item final s) ≡ Some next
 
 -- a word is the same as itself
-same_word : (text : List ℕ) → str_eq_ignore_ascii_case text text ≡ true
+pub same_word : (text : List ℕ) → str_eq_ignore_ascii_case text text ≡ true
 same_word text = lower_same text text refl
 
 put_gap : (held next : Held) (item : Item) → put held slot.Gap item ≡ Some next → IsPut held next slot.Gap
@@ -128,29 +128,28 @@ put_name held next name item e =
     })
 
 -- an operand with another register, and with another number
-abbrev with_register : Held → Option Reg → Held
+abbrev pub with_register : Held → Option Reg → Held
 with_register held o = record { register = o; number = held.number }
 
-abbrev with_number : Held → Option ℤ → Held
+abbrev pub with_number : Held → Option ℤ → Held
 with_number held o = record { register = held.register; number = o }
 
 pub register_again : (held final : Held) (letter : Letter) (o : Option Reg) → final.register ≡ o → (s : ShowsRegister letter o) →
     put held (slot.Register letter) (slot_item final (slot.Register letter)) ≡ Some (with_register held o)
 unfolding put slot_item
 register_again held final letter o e s =
-    ap (λ p. option_and_then (λ r. Some (with_register held (Some r))) (register_of letter (register_text letter p))) (e ∙ s.is)
+    ap (λ p. option_and_then (λ r. Some (with_register held (Some r))) (item_register letter (register_item letter p))) (e ∙ s.is)
     ∙ (ap (λ p. option_and_then (λ r. Some (with_register held (Some r))) p) s.named
     ∙ ap (λ p. Some (with_register held p)) (sym s.is))
 
 put_register : (held next : Held) (letter : Letter) (item : Item) → put held (slot.Register letter) item ≡ Some next → IsPut held next (slot.Register letter)
 unfolding put
 put_register held next letter item e =
-    option_and_then_some (λ text. option_and_then (λ r. Some (with_register held (Some r))) (register_of letter text)) (word_in item) next e
-    (λ text is_word some. option_and_then_some (λ r. Some (with_register held (Some r))) (register_of letter text) next some
+    option_and_then_some (λ r. Some (with_register held (Some r))) (item_register letter item) next e
     (λ r found made.
     let same : with_register held (Some r) ≡ next = same_Some (with_register held (Some r)) next made in
     let register : next.register ≡ Some r = ap (λ (h : Held). h.register) (sym same) in
-    let shown : ShowsRegister letter (Some r) = register_is_read letter text r found in
+    let shown : ShowsRegister letter (Some r) = register_is_read letter item r found in
     record {
       register = λ t. absurd cc;
       number = λ t. ap (λ (h : Held). h.number) (sym same);
@@ -158,7 +157,7 @@ put_register held next letter item e =
       number_there = λ t. absurd cc;
       holds = λ final k. subst (λ o. ShowsRegister letter o) (sym (k.register refl ∙ register)) shown;
       again = λ final k. register_again held final letter (Some r) (k.register refl ∙ register) shown ∙ ap Some same;
-    }))
+    })
 
 put_number : (held next : Held) (item : Item) → put held slot.Number item ≡ Some next → IsPut held next slot.Number
 unfolding put slot_item

@@ -13,11 +13,12 @@ use Rattle.sl_model.specs.declared.register.Bank.TheVariants.{General, Vector}
 use Rattle.sl_model.specs.declared.register.Reg.{Reg}
 use Rattle.sl_model.specs.Digits.{decimal_number, digits_number}
 use Rattle.form_table.specs.Numerals.{decimal_value}
-use Rattle.form_table.specs.Items.{Item, blank, mark, word, numeral}
+use Rattle.form_table.specs.Items.{Item, blank, mark, word, symbol, numeral}
 use Rattle.form_table.specs.Rows.{name_text, mnemonic_text, slots_of, row_slots}
-use Rattle.form_table.specs.Spells.{Taken, numbered, below_count, unless_r13, register_of, empty, put, front, ended, comma, fill}
+use Rattle.form_table.specs.Spells.{Taken, numbered, below_count, unless_r13, register_of, symbolic_reg, item_register, empty, put, front, ended, comma, fill}
 use Rattle.form_table.specs.Reads.{has_mnemonic, fit_row, fit_or, fit_from}
-use Rattle.form_table.specs.Tables.{slot_kind, letter_code, is_plain, letters_differ, same_kind_differ, slots_differ, spellings_differ, rows_differ, differs_from, all_differ}
+use Rattle.form_table.specs.Symbols.{letter_code}
+use Rattle.form_table.specs.Tables.{slot_kind, is_plain, letters_differ, same_kind_differ, slots_differ, spellings_differ, rows_differ, differs_from, all_differ}
 use Rattle.form_table.specs.declared.rows.Letter.{Letter}
 use Rattle.form_table.specs.declared.rows.Letter.TheVariants as letter
 use Rattle.form_table.specs.declared.rows.Name.{Name}
@@ -187,38 +188,46 @@ abbrev pub item_kind : Item → ℕ
 item_kind blank = 0
 item_kind (mark c) = 1
 item_kind (word text) = 2
+item_kind (symbol l n) = 2
 item_kind (numeral n) = 3
 
 -- a slot takes items of its kind
 put_kind : (held next : Held) (s : Slot) (item : Item) → put held s item ≡ Some next → item_kind item ≡ slot_kind s
-unfolding put
+unfolding put item_register
 put_kind held next slot.Gap blank e = refl
 put_kind held next slot.Gap (mark c) e = absurd cc
 put_kind held next slot.Gap (word text) e = absurd cc
+put_kind held next slot.Gap (symbol l n) e = absurd cc
 put_kind held next slot.Gap (numeral n) e = absurd cc
 put_kind held next (slot.Mark code) blank e = absurd cc
 put_kind held next (slot.Mark code) (mark c) e = refl
 put_kind held next (slot.Mark code) (word text) e = absurd cc
+put_kind held next (slot.Mark code) (symbol l n) e = absurd cc
 put_kind held next (slot.Mark code) (numeral n) e = absurd cc
 put_kind held next (slot.Name name) blank e = absurd cc
 put_kind held next (slot.Name name) (mark c) e = absurd cc
 put_kind held next (slot.Name name) (word text) e = refl
+put_kind held next (slot.Name name) (symbol l n) e = absurd cc
 put_kind held next (slot.Name name) (numeral n) e = absurd cc
 put_kind held next (slot.Register letter) blank e = absurd cc
 put_kind held next (slot.Register letter) (mark c) e = absurd cc
 put_kind held next (slot.Register letter) (word text) e = refl
+put_kind held next (slot.Register letter) (symbol l n) e = refl
 put_kind held next (slot.Register letter) (numeral n) e = absurd cc
 put_kind held next slot.Number blank e = absurd cc
 put_kind held next slot.Number (mark c) e = absurd cc
 put_kind held next slot.Number (word text) e = absurd cc
+put_kind held next slot.Number (symbol l n) e = absurd cc
 put_kind held next slot.Number (numeral n) e = refl
 put_kind held next slot.Index blank e = absurd cc
 put_kind held next slot.Index (mark c) e = absurd cc
 put_kind held next slot.Index (word text) e = absurd cc
+put_kind held next slot.Index (symbol l n) e = absurd cc
 put_kind held next slot.Index (numeral n) e = refl
 put_kind held next slot.Condition blank e = absurd cc
 put_kind held next slot.Condition (mark c) e = absurd cc
 put_kind held next slot.Condition (word text) e = refl
+put_kind held next slot.Condition (symbol l n) e = absurd cc
 put_kind held next slot.Condition (numeral n) e = absurd cc
 
 -- what slots of marks, names and registers took
@@ -227,6 +236,7 @@ unfolding put
 put_mark held next code blank e = absurd cc
 put_mark held next code (mark c) e = ap mark ((Decides-eqb c code).0 (cond_some (c == code) held next e).0)
 put_mark held next code (word text) e = absurd cc
+put_mark held next code (symbol l n) e = absurd cc
 put_mark held next code (numeral n) e = absurd cc
 
 -- the word of an item
@@ -234,6 +244,7 @@ abbrev pub text_of : Item → List ℕ
 text_of blank = []
 text_of (mark c) = []
 text_of (word text) = text
+text_of (symbol l n) = []
 text_of (numeral n) = []
 
 put_name : (held next : Held) (name : Name) (item : Item) → put held (slot.Name name) item ≡ Some next → str_eq_ignore_ascii_case (text_of item) (name_text name) ≡ true
@@ -241,20 +252,40 @@ unfolding put
 put_name held next name blank e = absurd cc
 put_name held next name (mark c) e = absurd cc
 put_name held next name (word text) e = (cond_some (str_eq_ignore_ascii_case text (name_text name)) held next e).0
+put_name held next name (symbol l n) e = absurd cc
 put_name held next name (numeral n) e = absurd cc
 
-pub record IsNamed (letter : Letter) (text : List ℕ) : Type 0 where
-  pub register : Reg
-  pub found : register_of letter text ≡ Some register
+-- An item is a register, where registers are spelled with a letter.
+record IsNamed (letter : Letter) (item : Item) : Type 0 where
+  register : Reg
+  found : item_register letter item ≡ Some register
 
-put_register : (held next : Held) (letter : Letter) (item : Item) → put held (slot.Register letter) item ≡ Some next → IsNamed letter (text_of item)
+put_register : (held next : Held) (letter : Letter) (item : Item) → put held (slot.Register letter) item ≡ Some next → IsNamed letter item
 unfolding put
-put_register held next letter blank e = absurd cc
-put_register held next letter (mark c) e = absurd cc
-put_register held next letter (word text) e =
-    option_and_then_some (λ r. Some (record { register = Some r; number = held.number })) (register_of letter text) next e
+put_register held next letter item e =
+    option_and_then_some (λ r. Some (record { register = Some r; number = held.number })) (item_register letter item) next e
     (λ r found made. record { register = r; found = found })
-put_register held next letter (numeral n) e = absurd cc
+
+-- letters that differ have differing codes
+codes_differ : (a b : Letter) → letters_differ a b ≡ true → not (letter_code a == letter_code b) ≡ true
+codes_differ a b d = by (is_plain a) (is_plain b) d
+  where
+    by : (p q : Bool) → cond p (not (letter_code a == letter_code b)) (cond q (not (letter_code a == letter_code b)) false) ≡ true → not (letter_code a == letter_code b) ≡ true
+    by true q e = e
+    by false true e = e
+    by false false e = absurd cc
+
+-- letters with differing spellings take no common item
+items_clash : (a b : Letter) (item : Item) (r q : Reg) → letters_differ a b ≡ true → item_register a item ≡ Some r → item_register b item ≡ Some q → ⊥
+unfolding item_register
+items_clash a b blank r q d e f = no_some r e
+items_clash a b (mark c) r q d e f = no_some r e
+items_clash a b (word text) r q d e f = letters_clash a b text r q d e f
+items_clash a b (symbol l n) r q d e f =
+    let one = (Decides-eqb (letter_code l) (letter_code a)).0 (cond_some (letter_code l == letter_code a) (symbolic_reg a n) r e).0 in
+    let two = (Decides-eqb (letter_code l) (letter_code b)).0 (cond_some (letter_code l == letter_code b) (symbolic_reg b n) q f).0 in
+    not_same (letter_code a) (letter_code b) (codes_differ a b d) (sym one ∙ two)
+items_clash a b (numeral n) r q d e f = no_some r e
 
 mark_code : (a b : ℕ) → mark a ≡ mark b → a ≡ b
 mark_code a b e = cc
@@ -269,7 +300,7 @@ same_kind_clash (slot.Name name) (slot.Name other) h k x y item d e f =
 same_kind_clash (slot.Register letter) (slot.Register other) h k x y item d e f =
     let one = put_register h x letter item e in
     let two = put_register k y other item f in
-    letters_clash letter other (text_of item) one.register two.register d one.found two.found
+    items_clash letter other item one.register two.register d one.found two.found
 same_kind_clash _ _ h k x y item d e f = false≢true d
 
 slots_clash : (a b : Slot) (h k x y : Held) (item : Item) → slots_differ a b ≡ true → put h a item ≡ Some x → put k b item ≡ Some y → ⊥

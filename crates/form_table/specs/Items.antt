@@ -5,13 +5,18 @@ use Rattle.std.specs.Prelude.{ℕ, ℤ, pos, ◌-ℤ◌, ◌+◌, ◌-◌, ◌==
 use Rattle.sl_model.specs.Token.{Lexeme}
 use Rattle.sl_model.specs.TokenTests.{is_word, is_number, is_mark, code_of, marks, touches}
 use Rattle.sl_model.specs.OptionSteps.{◌>>=◌}
+use Rattle.sl_isa.specs.Symbols.{Pair, has_pair, number_of}
 use Rattle.form_table.specs.Numerals.{number_value}
+use Rattle.form_table.specs.Symbols.{letter_bank, Symbol, symbol_at}
+use Rattle.form_table.specs.declared.rows.Letter.{Letter}
 
--- An item: a blank that counts, a mark by its code, a word, or a number with its sign.
+-- An item: a blank that counts, a mark by its code, a word, a symbolic register by its letter and its
+-- number, or a number with its sign.
 pub data Item : Type 0 where
   blank : Item
   mark : ℕ → Item
   word : List ℕ → Item
+  symbol : Letter → ℕ → Item
   numeral : ℤ → Item
 
 -- Is a token one of `,`, `[`, `]` and `!`, beside which blanks are free?
@@ -62,8 +67,8 @@ found_number (token ∷ tokens) = if marks 35 token then (do
   Some (record { count = found.count + 1; negative = found.negative; value = found.value })) else signed_number (token ∷ tokens)
 
 -- the number itself, with its sign
-abbrev pub number_of : Found → ℤ
-number_of found = if found.negative then pos 0 -ℤ pos found.value else pos found.value
+abbrev pub signed_value : Found → ℤ
+signed_value found = if found.negative then pos 0 -ℤ pos found.value else pos found.value
 
 -- a token that begins no number
 abbrev pub token_item : Lexeme → Item
@@ -75,12 +80,23 @@ token_item token =
 -- token; and how many tokens it is
 abbrev pub item_or : Option Found → Lexeme → Item × ℕ
 item_or None token = (token_item token, 1)
-item_or (Some found) token = (numeral (number_of found), found.count)
+item_or (Some found) token = (numeral (signed_value found), found.count)
 
--- the item that tokens begin with, and how many tokens it is
-unfoldable pub first_item : List Lexeme → Item × ℕ
-first_item [] = (blank, 1)
-first_item (token ∷ tokens) = item_or (found_number (token ∷ tokens)) token
+-- a symbolic register with the number of its pair, if that is among the pairs, else another item;
+-- and how many tokens it is
+abbrev pub symbol_or : List Pair → Option Symbol → Item × ℕ → Item × ℕ
+symbol_or pairs None other = other
+symbol_or pairs (Some s) other =
+    if has_pair (letter_bank s.letter) s.name pairs
+    then (symbol s.letter (number_of (letter_bank s.letter) s.name pairs), 4)
+    else other
+
+-- the item that tokens begin with, where symbolic registers have the numbers of these pairs, and
+-- how many tokens it is
+unfoldable pub first_item : List Pair → List Lexeme → Item × ℕ
+first_item pairs [] = (blank, 1)
+first_item pairs (token ∷ tokens) =
+    symbol_or pairs (symbol_at (token ∷ tokens)) (item_or (found_number (token ∷ tokens)) token)
 
 -- an item with the blank before it, if there is one that counts
 abbrev pub behind_blank : Bool → Item → List Item
@@ -88,20 +104,20 @@ behind_blank true item = blank ∷ item ∷ []
 behind_blank false item = item ∷ []
 
 -- what the first of some tokens adds to the items, where so many tokens belong to the item before
-abbrev pub items_at : Lexeme → ℕ → List Lexeme → List Item
-items_at before taken [] = []
-items_at before (suc taken) (token ∷ tokens) = []
-items_at before zero (token ∷ tokens) =
-    behind_blank (is_apart before token) (first_item (token ∷ tokens)).0
+abbrev pub items_at : List Pair → Lexeme → ℕ → List Lexeme → List Item
+items_at pairs before taken [] = []
+items_at pairs before (suc taken) (token ∷ tokens) = []
+items_at pairs before zero (token ∷ tokens) =
+    behind_blank (is_apart before token) (first_item pairs (token ∷ tokens)).0
 
 -- how many tokens behind it belong to the same item
-abbrev pub taken_behind : ℕ → List Lexeme → ℕ
-taken_behind (suc taken) tokens = taken
-taken_behind zero tokens = (first_item tokens).1 - 1
+abbrev pub taken_behind : List Pair → ℕ → List Lexeme → ℕ
+taken_behind pairs (suc taken) tokens = taken
+taken_behind pairs zero tokens = (first_item pairs tokens).1 - 1
 
 -- the items of the tokens behind one, of which so many belong to the item before
-unfoldable pub items_from : Lexeme → ℕ → List Lexeme → List Item
-items_from before taken [] = []
-items_from before taken (token ∷ tokens) =
-    items_at before taken (token ∷ tokens)
-    ++ items_from token (taken_behind taken (token ∷ tokens)) tokens
+unfoldable pub items_from : List Pair → Lexeme → ℕ → List Lexeme → List Item
+items_from pairs before taken [] = []
+items_from pairs before taken (token ∷ tokens) =
+    items_at pairs before taken (token ∷ tokens)
+    ++ items_from pairs token (taken_behind pairs taken (token ∷ tokens)) tokens

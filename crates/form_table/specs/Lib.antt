@@ -1,5 +1,6 @@
 pub mod Rows
 pub mod Numerals
+pub mod Symbols
 pub mod Items
 pub mod ItemViews
 pub mod Spells

@@ -7,7 +7,9 @@ use Rattle.sl_model.specs.declared.register.Bank.{Bank}
 use Rattle.sl_model.specs.declared.register.Bank.TheVariants as bank
 use Rattle.sl_model.specs.declared.register.Reg.{Reg}
 use Rattle.sl_model.specs.declared.instruction.Instr.{Instr}
+use Rattle.sl_isa.specs.Symbols.{Pair}
 use Rattle.form_table.specs.Rows.{name_text, row_operands, mnemonic_text, slots_of}
+use Rattle.form_table.specs.Symbols.{letter_code}
 use Rattle.form_table.specs.Spells.{comma, condition_names}
 use Rattle.form_table.specs.Reads.{is_picked}
 use Rattle.form_table.specs.declared.rows.Letter.{Letter}
@@ -28,7 +30,7 @@ is_stack bank.Vector = false
 is_stack bank.Flags = false
 is_stack bank.Stack = true
 
--- a register that is spelled with a letter, in lower case
+-- a register of the machine that is spelled with a letter, in lower case
 unfoldable pub register_name : Letter → Reg → List ℕ
 register_name letter.X r =
     if is_stack r.bank then codes "sp"
@@ -42,10 +44,22 @@ register_name letter.R r =
     if is_stack r.bank then codes "sp"
     else (if r.number == 14 then codes "lr" else 114 ∷ decimal r.number)
 
+-- a symbolic register with the name of a pair, if there is the pair
+unfoldable pub symbol_name : Letter → Option Pair → List ℕ
+symbol_name letter None = []
+symbol_name letter (Some pair) = letter_code letter ∷ codes "<" ++ (pair.1 ++ codes ">")
+
+-- a register with the names of these pairs
+abbrev pub named_register : List Pair → Letter → Reg → List ℕ
+named_register pairs letter r =
+    if r.symbolic
+    then symbol_name letter (slice_get pairs r.number)
+    else register_name letter r
+
 -- what is printed of the register that an operand holds, if it holds one
-abbrev pub register_text : Letter → Option Reg → List ℕ
-register_text letter None = []
-register_text letter (Some r) = register_name letter r
+abbrev pub register_text : List Pair → Letter → Option Reg → List ℕ
+register_text pairs letter None = []
+register_text pairs letter (Some r) = named_register pairs letter r
 
 -- what is printed of its number, if it holds one
 abbrev pub number_text : Option ℤ → List ℕ
@@ -58,19 +72,19 @@ condition_text None = []
 condition_text (Some n) = slice_index_or condition_names (unsigned_abs n) []
 
 -- what is printed for a slot of an operand: a blank stands behind each comma
-unfoldable pub slot_text : Held → Slot → List ℕ
-slot_text held slot.Gap = codes " "
-slot_text held (slot.Mark code) = if code == 44 then codes ", " else code ∷ []
-slot_text held (slot.Name name) = name_text name
-slot_text held (slot.Register letter) = register_text letter held.register
-slot_text held slot.Number = codes "#" ++ number_text held.number
-slot_text held slot.Index = number_text held.number
-slot_text held slot.Condition = condition_text held.number
+unfoldable pub slot_text : List Pair → Held → Slot → List ℕ
+slot_text pairs held slot.Gap = codes " "
+slot_text pairs held (slot.Mark code) = if code == 44 then codes ", " else code ∷ []
+slot_text pairs held (slot.Name name) = name_text name
+slot_text pairs held (slot.Register letter) = register_text pairs letter held.register
+slot_text pairs held slot.Number = codes "#" ++ number_text held.number
+slot_text pairs held slot.Index = number_text held.number
+slot_text pairs held slot.Condition = condition_text held.number
 
 -- for slots, one behind the other
-unfoldable pub slots_text : Held → List Slot → List ℕ
-slots_text held [] = []
-slots_text held (slot ∷ slots) = slot_text held slot ++ slots_text held slots
+unfoldable pub slots_text : List Pair → Held → List Slot → List ℕ
+slots_text pairs held [] = []
+slots_text pairs held (slot ∷ slots) = slot_text pairs held slot ++ slots_text pairs held slots
 
 -- Has an operand of a shape a register?
 abbrev pub has_register : Shape → Bool
@@ -141,21 +155,22 @@ helds_in i (operand ∷ operands) ins outs numbers =
 
 -- what is printed for operands that hold these, the first of them behind a slot
 -- and each other one behind a comma
-unfoldable pub operands_text : Slot → List Operand → List Held → List ℕ
-operands_text lead [] helds = []
-operands_text lead (operand ∷ operands) [] = []
-operands_text lead (operand ∷ operands) (held ∷ helds) =
-    slots_text held (slots_of lead operand.shape) ++ operands_text comma operands helds
+unfoldable pub operands_text : List Pair → Slot → List Operand → List Held → List ℕ
+operands_text pairs lead [] helds = []
+operands_text pairs lead (operand ∷ operands) [] = []
+operands_text pairs lead (operand ∷ operands) (held ∷ helds) =
+    slots_text pairs held (slots_of lead operand.shape) ++ operands_text pairs comma operands helds
 
 -- what is printed for a row whose operands hold these
-unfoldable pub row_text : Row → List Held → List ℕ
-row_text row helds = mnemonic_text row ++ operands_text slot.Gap (row_operands row) helds
+unfoldable pub row_text : List Pair → Row → List Held → List ℕ
+row_text pairs row helds =
+    mnemonic_text row ++ operands_text pairs slot.Gap (row_operands row) helds
 
 -- an instruction as it is printed by a row, if there is one
-abbrev pub row_printed : Option Row → Instr → List ℕ
-row_printed None i = []
-row_printed (Some row) i = row_text row (helds_in i (row_operands row) 0 0 0)
+abbrev pub row_printed : List Pair → Option Row → Instr → List ℕ
+row_printed pairs None i = []
+row_printed pairs (Some row) i = row_text pairs row (helds_in i (row_operands row) 0 0 0)
 
--- an instruction as it is printed, by the row of its form
-unfoldable pub printed : List Row → Instr → List ℕ
-printed table i = row_printed (slice_get table i.form) i
+-- an instruction as it is printed with the names of these pairs, by the row of its form
+unfoldable pub printed : List Row → List Pair → Instr → List ℕ
+printed table pairs i = row_printed pairs (slice_get table i.form) i

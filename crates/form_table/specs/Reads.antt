@@ -7,9 +7,10 @@ use Rattle.std.specs.Str.{str_eq_ignore_ascii_case}
 use Rattle.sl_model.specs.declared.register.Reg.{Reg}
 use Rattle.sl_model.specs.declared.instruction.Instr.{Instr}
 use Rattle.sl_model.specs.Register.{same_reg}
-use Rattle.sl_model.specs.RegSets.{set_has}
+use Rattle.sl_model.specs.Lawful.{suits_set}
 use Rattle.sl_model.specs.Token.{Lexeme}
 use Rattle.sl_isa.specs.Steps.{flags_register}
+use Rattle.sl_isa.specs.Symbols.{Pair}
 use Rattle.form_table.specs.Items.{Item, items_from}
 use Rattle.sl_model.specs.TokenTests.{is_word, marks, touches}
 use Rattle.form_table.specs.Rows.{row_operands, mnemonic_text}
@@ -108,7 +109,7 @@ numbers_suit (operand ∷ operands) (held ∷ helds) =
 -- Does an operand take the register that it holds, if it holds one?
 abbrev pub register_suits : Operand → Option Reg → Bool
 register_suits operand None = true
-register_suits operand (Some r) = set_has operand.class r
+register_suits operand (Some r) = suits_set (r, operand.class)
 
 -- Do they take the registers?
 unfoldable pub registers_suit : List Operand → List Held → Bool
@@ -271,11 +272,11 @@ knows table first tokens =
     then (if is_suffixed first tokens then false else list_any (has_mnemonic first.text) table)
     else false
 
--- the instruction that the tokens of a line spell, without comments, or the
--- first reason why they spell none
-unfoldable pub reads : List Row → List Lexeme → Result Instr FormReason
-reads table [] = Err UnknownMnemonic
-reads table (first ∷ tokens) =
+-- the instruction that the tokens of a line spell, without comments, where symbolic registers have
+-- the numbers of these pairs, or the first reason why they spell none
+unfoldable pub reads : List Row → List Pair → List Lexeme → Result Instr FormReason
+reads table pairs [] = Err UnknownMnemonic
+reads table pairs (first ∷ tokens) =
     if knows table first tokens
-    then with_fit table (fit_from 0 table first.text (items_from first 0 tokens))
+    then with_fit table (fit_from 0 table first.text (items_from pairs first 0 tokens))
     else Err UnknownMnemonic

@@ -9,7 +9,8 @@ use Rattle.sl_model.specs.declared.register.Bank.TheVariants.{General, Vector, S
 use Rattle.sl_model.specs.declared.register.Reg.{Reg}
 use Rattle.sl_model.specs.OptionSteps.{◌>>=◌}
 use Rattle.form_table.specs.Numerals.{decimal_value}
-use Rattle.form_table.specs.Items.{Item, blank, mark, word, numeral}
+use Rattle.form_table.specs.Symbols.{letter_code, letter_bank}
+use Rattle.form_table.specs.Items.{Item, blank, mark, word, symbol, numeral}
 use Rattle.form_table.specs.Rows.{name_text, slots_of}
 use Rattle.form_table.specs.declared.rows.Letter.{Letter}
 use Rattle.form_table.specs.declared.rows.Letter.TheVariants as letter
@@ -86,6 +87,7 @@ abbrev pub word_in : Item → Option (List ℕ)
 word_in blank = None
 word_in (mark c) = None
 word_in (word text) = Some text
+word_in (symbol letter n) = None
 word_in (numeral n) = None
 
 -- the number of an item that is one
@@ -93,6 +95,7 @@ abbrev pub number_in : Item → Option ℤ
 number_in blank = None
 number_in (mark c) = None
 number_in (word text) = None
+number_in (symbol letter n) = None
 number_in (numeral n) = Some n
 
 -- Is an item a blank?
@@ -100,6 +103,7 @@ abbrev pub is_gap : Item → Bool
 is_gap blank = true
 is_gap (mark c) = false
 is_gap (word text) = false
+is_gap (symbol letter n) = false
 is_gap (numeral n) = false
 
 -- Is an item the mark with this code?
@@ -107,7 +111,21 @@ abbrev pub is_mark_of : ℕ → Item → Bool
 is_mark_of code blank = false
 is_mark_of code (mark c) = c == code
 is_mark_of code (word text) = false
+is_mark_of code (symbol letter n) = false
 is_mark_of code (numeral n) = false
+
+-- a symbolic register that is spelled with a letter
+abbrev pub symbolic_reg : Letter → ℕ → Reg
+symbolic_reg letter n = record { bank = letter_bank letter; symbolic = true; number = n }
+
+-- the register that an item is, where registers are spelled with a letter
+unfoldable pub item_register : Letter → Item → Option Reg
+item_register letter blank = None
+item_register letter (mark c) = None
+item_register letter (word text) = register_of letter text
+item_register letter (symbol other n) =
+    if letter_code other == letter_code letter then Some (symbolic_reg letter n) else None
+item_register letter (numeral n) = None
 
 -- what an operand holds with an item in a slot, if the slot takes the item
 unfoldable pub put : Held → Slot → Item → Option Held
@@ -117,8 +135,7 @@ put held (slot.Name name) item = do
   text ← word_in item
   if str_eq_ignore_ascii_case text (name_text name) then Some held else None
 put held (slot.Register letter) item = do
-  text ← word_in item
-  r ← register_of letter text
+  r ← item_register letter item
   Some (record { register = Some r; number = held.number })
 put held slot.Number item = do
   n ← number_in item

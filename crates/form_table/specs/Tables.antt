@@ -1,10 +1,10 @@
 -- Tests of tables, which the checker computes: no two rows fit the same words, and what is printed
 -- is read again. Source: this project's own; nothing of them is Arm's.
-use Rattle.std.specs.Prelude.{ℕ, pos, ◌+◌, ◌^◌, zero, suc, ◌==◌, Bool, true, false, not, int_le, nat_le, nat_lt, unsigned_abs, List, [], ◌∷◌, slice_get, Option, None, Some, if◌then◌else◌}
-use Rattle.std.specs.List.{list_all}
+use Rattle.std.specs.Prelude.{ℕ, pos, ◌+◌, ◌-◌, ◌*◌, ◌^◌, zero, suc, ◌==◌, Bool, true, false, not, bit_or, int_le, nat_le, nat_lt, unsigned_abs, List, [], ◌∷◌, slice_get, Option, None, Some, if◌then◌else◌}
 use Rattle.std.specs.Str.{bytes_eq, str_eq_ignore_ascii_case}
-use Rattle.sl_model.specs.Token.{begins_word, is_word_byte}
+use Rattle.sl_model.specs.declared.register.RegSet.{RegSet}
 use Rattle.form_table.specs.Rows.{name_text, row_operands, mnemonic_text, slots_of, row_slots}
+use Rattle.form_table.specs.Symbols.{letter_code, is_word_text}
 use Rattle.form_table.specs.Printed.{has_register, has_number, one_if, among_outs, among_ins}
 use Rattle.form_table.specs.declared.rows.Alias.{Alias}
 use Rattle.form_table.specs.declared.rows.Alias.TheVariants as alias
@@ -26,16 +26,6 @@ slot_kind (slot.Register letter) = 2
 slot_kind slot.Number = 3
 slot_kind slot.Index = 3
 slot_kind slot.Condition = 2
-
--- the letter itself, in lower case
-abbrev pub letter_code : Letter → ℕ
-letter_code letter.X = 120
-letter_code letter.W = 119
-letter_code letter.V = 118
-letter_code letter.Q = 113
-letter_code letter.D = 100
-letter_code letter.S = 115
-letter_code letter.R = 114
 
 -- Do all registers that are spelled with a letter begin with it?
 abbrev pub is_plain : Letter → Bool
@@ -88,11 +78,6 @@ differs_from row (other ∷ rows) = if rows_differ row other then differs_from r
 abbrev pub all_differ : List Row → Bool
 all_differ [] = true
 all_differ (row ∷ rows) = if differs_from row rows then all_differ rows else false
-
--- Is a text a word, as lines have them?
-abbrev pub is_word_text : List ℕ → Bool
-is_word_text [] = false
-is_word_text (c ∷ text) = if begins_word c then list_all is_word_byte text else false
 
 -- Are two slots the same?
 abbrev pub same_slot : Slot → Slot → Bool
@@ -268,3 +253,37 @@ all_led (row ∷ rows) = if is_led row.first.shape then all_led rows else false
 -- Can a table be read and printed: it is one, and each row's first operand stands behind a blank?
 abbrev pub is_readable : List Row → Bool
 is_readable table = if is_table table then all_led table else false
+
+-- the registers that are spelled with a letter
+abbrev pub letter_registers : Letter → RegSet
+letter_registers letter.X = record { bits = 2 ^ 32 - 1 + 2 ^ 65 }
+letter_registers letter.W = record { bits = 2 ^ 32 - 1 }
+letter_registers letter.V = record { bits = (2 ^ 32 - 1) * 2 ^ 32 }
+letter_registers letter.Q = record { bits = (2 ^ 32 - 1) * 2 ^ 32 }
+letter_registers letter.D = record { bits = (2 ^ 32 - 1) * 2 ^ 32 }
+letter_registers letter.S = record { bits = (2 ^ 32 - 1) * 2 ^ 32 }
+letter_registers letter.R = record { bits = 2 ^ 13 - 1 + 2 ^ 14 + 2 ^ 65 }
+
+-- Is each register of a set one of another set?
+abbrev pub is_within : RegSet → RegSet → Bool
+is_within set other = bit_or set.bits other.bits == other.bits
+
+-- Are the registers of an operand's class, if an operand of its shape has a
+-- register, ones that its letter spells?
+abbrev pub spells_class : Shape → RegSet → Bool
+spells_class shape.Nothing set = true
+spells_class (shape.Register letter) set = is_within set (letter_registers letter)
+spells_class shape.Number set = true
+spells_class shape.Condition set = true
+spells_class (shape.Shift name) set = true
+spells_class (shape.Lanes name) set = is_within set (letter_registers letter.V)
+spells_class (shape.Lane name) set = is_within set (letter_registers letter.V)
+spells_class (shape.Base letter) set = is_within set (letter_registers letter)
+spells_class (shape.Offset letter) set = is_within set (letter_registers letter)
+spells_class (shape.Before letter) set = is_within set (letter_registers letter)
+
+-- Is this so of all operands?
+abbrev pub spell_classes : List Operand → Bool
+spell_classes [] = true
+spell_classes (operand ∷ operands) =
+    if spells_class operand.shape operand.class then spell_classes operands else false

@@ -1,11 +1,16 @@
 //! The items of an instruction's spelling.
-ghost use Rattle.std.specs.Prelude.{◌≡◌, ◌^◌, ◌≤◌, ◌++◌, IfSome, IfOk, OnOk, MatchOption, map};
+ghost use Rattle.std.specs.Prelude.{◌≡◌, ℕ, ◌^◌, ◌≤◌, ◌++◌, IfSome, IfOk, OnOk, MatchOption, None, Some, length, map};
+ghost use Rattle.form_table.specs.Symbols as spelled;
 ghost use Rattle.form_table.specs.Items as spec;
 ghost use Rattle.form_table.specs.ItemViews.{lexemes, item_value, found_value, Finds};
 ghost use Rattle.sl_text.specs.Tokens.{token_value};
+ghost use Rattle.sl_isa.specs.SymbolViews.{pairs};
 
 use crate::numerals::number_value;
+use crate::rows::Letter;
+use crate::symbols::{letter_bank, symbol_at};
 use sl_base::NoMemory;
+use sl_isa::Symbols;
 use sl_text::{Token, TokenKind};
 use std::alloc::Global;
 
@@ -18,6 +23,8 @@ pub enum Item<'a> {
     Mark(u8),
     /// A word, or a number's text that is no number.
     Word(&'a str),
+    /// A symbolic register, by its letter and its number.
+    Symbol(Letter, u16),
     /// A number with its sign, and 2^32 where it is greater.
     Number(i64),
 }
@@ -128,9 +135,9 @@ fn found_number(tokens: &[Token<'_>]) -> Option<Found>
 }
 
 // The number that was found.
-fn number_of(found: Found) -> i64
+fn signed_value(found: Found) -> i64
     requires { found.value ≤ 2 ^ 32 }
-    ensures { result ≡ spec.number_of (found_value found) }
+    ensures { result ≡ spec.signed_value (found_value found) }
 {
     let value = found.value as i64;
     if found.negative {
@@ -150,20 +157,51 @@ fn token_item<'a>(token: &Token<'a>) -> Item<'a>
     }
 }
 
+// The symbolic register that tokens begin with, as an item, if it has a number.
+fn symbol_item<'a>(tokens: &[Token<'a>], symbols: &Symbols) -> Option<Item<'a>>
+    requires { length (pairs symbols.now) ≤ 65536 }
+    ensures { MatchOption result
+        ((other : spec.Item × ℕ)
+        → spec.symbol_or (pairs symbols.now) (spelled.symbol_at (lexemes tokens.now)) other ≡ other)
+        (λ item. (other : spec.Item × ℕ)
+        → spec.symbol_or (pairs symbols.now) (spelled.symbol_at (lexemes tokens.now)) other
+        ≡ (item_value item, 4)) }
+{
+    let symbol = symbol_at(tokens)?;
+    let number = symbols.known(letter_bank(symbol.letter), symbol.name)?;
+    Some(Item::Symbol(symbol.letter, number))
+}
+
+// The item that tokens begin with which is no symbolic register, and how many tokens it is.
+fn plain_item<'a>(token: &Token<'a>, tokens: &[Token<'a>]) -> (Item<'a>, usize)
+    ensures item { item_value result.0
+        ≡ (spec.item_or (spec.found_number (lexemes tokens.now)) (token_value token.now)).0 }
+    ensures count { result.1
+        ≡ (spec.item_or (spec.found_number (lexemes tokens.now)) (token_value token.now)).1 }
+    ensures some { 1 ≤ result.1 }
+{
+    let Some(found) = found_number(tokens) else {
+        return (token_item(token), 1);
+    };
+    (Item::Number(signed_value(found)), found.count)
+}
+
 // The item that tokens begin with, and how many tokens it is.
 #[tactic(auto, unfolding(crate::specs::Items::first_item))]
-fn first_item<'a>(tokens: &[Token<'a>]) -> (Item<'a>, usize)
-    ensures item { item_value result.0 ≡ (spec.first_item (lexemes tokens.now)).0 }
-    ensures count { result.1 ≡ (spec.first_item (lexemes tokens.now)).1 }
+fn first_item<'a>(tokens: &[Token<'a>], symbols: &Symbols) -> (Item<'a>, usize)
+    requires { length (pairs symbols.now) ≤ 65536 }
+    ensures item { item_value result.0
+        ≡ (spec.first_item (pairs symbols.now) (lexemes tokens.now)).0 }
+    ensures count { result.1 ≡ (spec.first_item (pairs symbols.now) (lexemes tokens.now)).1 }
     ensures some { 1 ≤ result.1 }
 {
     let Some((token, _)) = tokens.split_first() else {
         return (Item::Gap, 1);
     };
-    let Some(found) = found_number(tokens) else {
-        return (token_item(token), 1);
-    };
-    (Item::Number(number_of(found)), found.count)
+    if let Some(item) = symbol_item(tokens, symbols) {
+        return (item, 4);
+    }
+    plain_item(token, tokens)
 }
 
 // Adds an item, with a blank before it where one counts. After `NoMemory` some of it may be there.
@@ -188,17 +226,21 @@ fn push_first<'a>(
     before: &Token<'a>,
     taken: usize,
     tokens: &[Token<'a>],
+    symbols: &Symbols,
 ) -> Result<usize, NoMemory>
+    requires { length (pairs symbols.now) ≤ 65536 }
     ensures items { OnOk result
         (map item_value items.new.items
         ≡ map item_value items.old.items
-        ++ spec.items_at (token_value before.now) taken (lexemes tokens.now)) }
-    ensures behind { IfOk result (λ left. left ≡ spec.taken_behind taken (lexemes tokens.now)) }
+        ++ spec.items_at (pairs symbols.now) (token_value before.now) taken
+        (lexemes tokens.now)) }
+    ensures behind { IfOk result
+        (λ left. left ≡ spec.taken_behind (pairs symbols.now) taken (lexemes tokens.now)) }
 {
     if taken > 0 {
         return Ok(taken - 1);
     }
-    let (item, count) = first_item(tokens);
+    let (item, count) = first_item(tokens, symbols);
     let Some((token, _)) = tokens.split_first() else {
         return Ok(count - 1);
     };
@@ -207,21 +249,24 @@ fn push_first<'a>(
 }
 
 /// The items of the tokens that stand behind a token of their line. The tokens hold no comments.
+/// Symbolic registers have the numbers of their names.
 #[tactic(auto, unfolding(crate::specs::Items::items_from))]
 pub fn items<'a>(
     alloc: Global,
     first: &Token<'a>,
     tokens: &[Token<'a>],
+    symbols: &Symbols,
 ) -> Result<Vec<Item<'a>>, NoMemory>
+    requires { length (pairs symbols.now) ≤ 65536 }
     ensures { IfOk result
         (λ v. map item_value v.items
-        ≡ spec.items_from (token_value first.now) 0 (lexemes tokens.now)) }
+        ≡ spec.items_from (pairs symbols.now) (token_value first.now) 0 (lexemes tokens.now)) }
 {
     let mut items = Vec::new(alloc);
     let mut before = *first;
     let mut taken = 0;
     for (place, token) in tokens.iter().enumerate() {
-        taken = push_first(&mut items, &before, taken, &tokens[place..])?;
+        taken = push_first(&mut items, &before, taken, &tokens[place..], symbols)?;
         before = *token;
     }
     Ok(items)

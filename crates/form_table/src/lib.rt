@@ -7,4 +7,5 @@ pub mod printer;
 pub mod reader;
 pub mod rows;
 pub mod spells;
+pub mod symbols;
 pub mod table;

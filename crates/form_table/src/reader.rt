@@ -1,5 +1,5 @@
 //! Reading an instruction by a table of rows.
-ghost use Rattle.std.specs.Prelude.{◌≡◌, ◌<◌, ◌+◌, length, map, true, slice_get, IfOk};
+ghost use Rattle.std.specs.Prelude.{◌≡◌, ◌<◌, ◌≤◌, ◌+◌, length, map, take, true, slice_get, IfOk, OnOk, OnErr};
 ghost use Rattle.std.specs.List.{list_any};
 ghost use Rattle.form_table.specs.ItemViews.{item_value, lexemes};
 ghost use Rattle.form_table.specs.Rows.{row_operands};
@@ -8,16 +8,24 @@ ghost use Rattle.form_table.specs.TableRows.{rows_of};
 ghost use Rattle.sl_model.specs.Answers.{Gives};
 ghost use Rattle.sl_text.specs.Tokens.{token_value};
 ghost use Rattle.sl_isa.specs.Arch.{reason_of};
+ghost use Rattle.sl_isa.specs.Symbols.{with_pairs};
+ghost use Rattle.sl_isa.specs.SymbolViews.{pairs};
+ghost use Rattle.form_table.specs.Symbols.{pairs_from, pairs_in};
+ghost use Rattle.form_table.specs.Items.{items_from};
 
 use crate::items::{Item, items};
 use crate::rows::{Alias, Operand, Range, Role, Row, Sum};
 use crate::spells::{Held, fill};
+use crate::symbols::{number_all, symbol_count};
 use crate::table::Table;
 use sl_isa::reasons::{FormErr, FormReason};
-use sl_isa::sets::set_has;
-use sl_isa::{Bank, Instr, Reg, RegSet};
+use sl_isa::sets::suits_set;
+use sl_isa::{Bank, Instr, Reg, Symbols};
 use sl_text::{Token, TokenKind};
 use std::alloc::Global;
+
+// The most symbolic registers that a spelling has: one for each operand of a row.
+const MOST_SYMBOLS: usize = 5;
 
 /// A row of a table by its number, and what its operands hold.
 #[derive(Clone, Copy)]
@@ -178,7 +186,7 @@ fn register_suits(operand: &Operand, register: Option<Reg>) -> bool
     let Some(r) = register else {
         return true;
     };
-    set_has(operand.class, r)
+    suits_set(r, operand.class)
 }
 
 // Whether operands take the registers that they hold.
@@ -519,14 +527,79 @@ fn knows(table: &Table<'_>, first: &Token<'_>, tokens: &[Token<'_>]) -> bool
     is_mnemonic(table, first.text)
 }
 
-/// Reads the instruction that the tokens of a line spell, without line and tag, and
-/// neither early nor late. The tokens hold no comments. Where they spell none, the
-/// answer is the first reason for it.
-#[tactic(auto, unfolding(crate::specs::Reads::reads))]
-pub fn read_form(table: &Table<'_>, alloc: Global, tokens: &[Token<'_>]) -> Result<Instr, FormErr>
-    requires { length (rows_of table.now) < 65536 }
+// The instruction that the tokens behind a mnemonic spell, whose symbolic registers have numbers.
+fn read_numbered(
+    table: &Table<'_>,
+    alloc: Global,
+    first: &Token<'_>,
+    tokens: &[Token<'_>],
+    symbols: &Symbols,
+) -> Result<Instr, FormErr>
+    requires few { length (rows_of table.now) < 65536 }
+    requires numbers { length (pairs symbols.now) ≤ 65536 }
     ensures { Gives reason_of (λ i. i) result
-        (spec.reads (rows_of table.now) (lexemes tokens.now)) }
+        (spec.with_fit (rows_of table.now)
+        (spec.fit_from 0 (rows_of table.now) first.now.text.now
+        (items_from (pairs symbols.now) (token_value first.now) 0 (lexemes tokens.now)))) }
+{
+    let Ok(items) = items(alloc, first, tokens, symbols) else {
+        return Err(FormErr::NoMemory);
+    };
+    match with_fit(table, find_fit(table, first.text, &items)) {
+        Ok(instr) => Ok(instr),
+        Err(reason) => Err(FormErr::Refused(reason)),
+    }
+}
+
+// The same where their names may be new. Where none is read, some of them may be numbered.
+fn read_operands(
+    table: &Table<'_>,
+    alloc: Global,
+    first: &Token<'_>,
+    tokens: &[Token<'_>],
+    symbols: &mut Symbols,
+) -> Result<Instr, FormErr>
+    requires few { length (rows_of table.now) < 65536 }
+    requires numbers { length (pairs symbols.old) ≤ 65529 }
+    ensures answer { Gives reason_of (λ i. i) result
+        (spec.with_fit (rows_of table.now)
+        (spec.fit_from 0 (rows_of table.now) first.now.text.now
+        (items_from (with_pairs (pairs symbols.old) (pairs_from (lexemes tokens.now)))
+        (token_value first.now) 0 (lexemes tokens.now)))) }
+    ensures ok { OnOk result
+        (pairs symbols.new ≡ with_pairs (pairs symbols.old) (pairs_from (lexemes tokens.now))) }
+    ensures front { take (length (pairs symbols.old)) (pairs symbols.new) ≡ pairs symbols.old }
+    ensures count { length (pairs symbols.new) ≤ length (pairs symbols.old) + 7 }
+{
+    if symbol_count(tokens) > MOST_SYMBOLS {
+        return Err(FormErr::Refused(FormReason::BadOperand));
+    }
+    if number_all(alloc, tokens, symbols).is_err() {
+        return Err(FormErr::NoMemory);
+    }
+    read_numbered(table, alloc, first, tokens, symbols)
+}
+
+/// Reads the instruction that the tokens of a line spell, without line and tag, and
+/// neither early nor late. The tokens hold no comments. Symbolic registers have the numbers of
+/// their names, and new names are added to `symbols`. Where the tokens spell no instruction, the
+/// answer is the first reason for it, and `symbols` is as it was; so it is after `NoMemory`.
+#[tactic(auto, unfolding(crate::specs::Reads::reads, crate::specs::Symbols::pairs_in))]
+pub fn read_form(
+    table: &Table<'_>,
+    alloc: Global,
+    tokens: &[Token<'_>],
+    symbols: &mut Symbols,
+) -> Result<Instr, FormErr>
+    requires few { length (rows_of table.now) < 65536 }
+    requires numbers { length (pairs symbols.old) ≤ 65529 }
+    ensures answer { Gives reason_of (λ i. i) result
+        (spec.reads (rows_of table.now)
+        (with_pairs (pairs symbols.old) (pairs_in (lexemes tokens.now))) (lexemes tokens.now)) }
+    ensures ok { OnOk result
+        (pairs symbols.new ≡ with_pairs (pairs symbols.old) (pairs_in (lexemes tokens.now))) }
+    ensures err { OnErr result (pairs symbols.new ≡ pairs symbols.old) }
+    ensures count { length (pairs symbols.new) ≤ length (pairs symbols.old) + 7 }
 {
     let Some((first, rest)) = tokens.split_first() else {
         return Err(FormErr::Refused(FormReason::UnknownMnemonic));
@@ -534,11 +607,10 @@ pub fn read_form(table: &Table<'_>, alloc: Global, tokens: &[Token<'_>]) -> Resu
     if !knows(table, first, rest) {
         return Err(FormErr::Refused(FormReason::UnknownMnemonic));
     }
-    let Ok(items) = items(alloc, first, rest) else {
-        return Err(FormErr::NoMemory);
-    };
-    match with_fit(table, find_fit(table, first.text, &items)) {
-        Ok(instr) => Ok(instr),
-        Err(reason) => Err(FormErr::Refused(reason)),
+    let before = symbols.count();
+    let read = read_operands(table, alloc, first, rest, symbols);
+    if read.is_err() {
+        symbols.truncate(before);
     }
+    read
 }

@@ -8,6 +8,7 @@ ghost use Rattle.form_table.specs.SpellViews.{ReadsTaken};
 use crate::items::Item;
 use crate::numerals::decimal_value;
 use crate::rows::{Letter, Row, Shape, Slot, slots_of};
+use crate::symbols::{letter_bank, letter_code};
 use sl_isa::{Bank, Reg};
 
 /// What stands in an operand's place: its register and its number.
@@ -169,6 +170,27 @@ fn is_mark_of(code: u8, item: &Item<'_>) -> bool
     }
 }
 
+// The register that an item is, where registers are spelled with a letter.
+#[tactic(auto, unfolding(crate::specs::Spells::item_register))]
+fn item_register(letter: Letter, item: &Item<'_>) -> Option<Reg>
+    ensures { result ≡ spec.item_register letter (item_value item.now) }
+{
+    match item {
+        Item::Word(text) => register_of(letter, text),
+        Item::Symbol(other, number) => {
+            if letter_code(*other) != letter_code(letter) {
+                return None;
+            }
+            Some(Reg {
+                bank: letter_bank(letter),
+                symbolic: true,
+                number: *number,
+            })
+        }
+        _ => None,
+    }
+}
+
 // What an operand holds with an item in a slot, if the slot takes the item.
 #[tactic(auto, unfolding(crate::specs::Spells::put))]
 fn put(held: Held, slot: Slot, item: &Item<'_>) -> Option<Held>
@@ -195,8 +217,7 @@ fn put(held: Held, slot: Slot, item: &Item<'_>) -> Option<Held>
             None
         }
         Slot::Register(letter) => {
-            let text = word_in(item)?;
-            let register = register_of(letter, text)?;
+            let register = item_register(letter, item)?;
             Some(Held {
                 register: Some(register),
                 number: held.number,

@@ -1,1 +1,2 @@
 mod Arm64
+mod NeverThere

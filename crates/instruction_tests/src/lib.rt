@@ -14,6 +14,8 @@ mod form_rows;
 #[cfg(test)]
 mod reading;
 #[cfg(test)]
+mod renamings;
+#[cfg(test)]
 mod result_rows;
 #[cfg(test)]
 mod results;
@@ -25,6 +27,8 @@ mod scalars;
 mod spelling_rows;
 #[cfg(test)]
 mod spellings;
+#[cfg(test)]
+mod symbols;
 #[cfg(test)]
 mod tables;
 #[cfg(test)]

@@ -1,19 +1,20 @@
 //! How AArch64 reads and prints the spellings of its rows.
 use crate::access_spelling_rows;
-use crate::reading::{instr_of, reason_name, text_from};
+use crate::reading::{named_instr, reason_name, text_from};
 use crate::spelling_rows::{PARTS, ROWS};
 use crate::walk::{Tested, walk_all};
 use arm64_table::Arm64;
 use sample_set::Failing;
-use sl_isa::{Arch, FormErr};
+use sl_isa::{Arch, FormErr, Symbols};
 use std::alloc::{AllocError, Global};
 
 /// How a spelling is printed, or the reason why it is refused.
 fn answer_to(alloc: Global, text: &str) -> Result<String, AllocError> {
-    match instr_of(alloc, text) {
+    let mut symbols = Symbols::new(alloc);
+    match named_instr(alloc, text, &mut symbols) {
         Ok(instr) => {
             let mut out = Vec::new(alloc);
-            if Arm64.print_form(&instr, &mut out).is_err() {
+            if Arm64.print_form(&instr, &symbols, &mut out).is_err() {
                 return Err(AllocError);
             }
             text_from(alloc, &out)
@@ -52,10 +53,11 @@ fn spellings_of_accesses_have_their_answers(rt: HostRuntime) -> Failing {
 fn is_printed_behind(alloc: Global, length: usize) -> Result<bool, AllocError> {
     let text = "sqrdmulh v30.8h, v29.8h, v15.h[7]";
     let mut out = vec![in alloc; b' '; length]?;
-    let Ok(instr) = instr_of(alloc, text) else {
+    let mut symbols = Symbols::new(alloc);
+    let Ok(instr) = named_instr(alloc, text, &mut symbols) else {
         return Ok(false);
     };
-    let is_printed = Arm64.print_form(&instr, &mut out).is_ok();
+    let is_printed = Arm64.print_form(&instr, &symbols, &mut out).is_ok();
     Ok(is_printed && out.ends_with(text.as_bytes()) && out.len() == length + text.len())
 }
 

@@ -11,7 +11,7 @@ use sample_set::Failing;
 use sample_set::rows::{
     ADCS, ADD, ADD_LANES, ANY_X, LOAD_PAIR, NO_REGISTER, READABLE, STORE_PAIR, X_OR_ZERO,
 };
-use sl_isa::{ArchName, FormErr, FormInfo, FormReason, RegSet};
+use sl_isa::{ArchName, FormErr, FormInfo, FormReason, RegSet, Symbols};
 use sl_text::{Comments, Line, Token, tokens};
 use std::alloc::{AllocError, Global};
 
@@ -69,6 +69,10 @@ const SPELLINGS: &str = "\
     ubfx xzr, x1, #60, #5 => ImmediateRange\n\
     add xzr, x1, x2 => RegisterClass\n\
     add x0, sp, x2 => RegisterClass\n\
+    add x<a>, x1, X<b> => add x<a>, x1, x<b>\n\
+    add x<a>, x1, w<b> => BadOperand\n\
+    str x<a>, [x<b>], #8 => str x<a>, [x<b>], #8\n\
+    str x<b>, [x<b>], #8 => SameRegister\n\
     str x4, [sp], #8 => RegisterClass\n\
     str x4, [x4], #8 => SameRegister";
 
@@ -96,9 +100,10 @@ fn answer_to(alloc: Global, text: &str) -> Result<String, AllocError> {
         fourth: &[],
     };
     let mut out = Vec::new(alloc);
-    match read_form(&table, alloc, &words) {
+    let mut symbols = Symbols::new(alloc);
+    match read_form(&table, alloc, &words, &mut symbols) {
         Ok(instr) => {
-            if print_form(&table, &instr, &mut out).is_err() {
+            if print_form(&table, &instr, &symbols, &mut out).is_err() {
                 return Err(AllocError);
             }
         }
@@ -120,7 +125,7 @@ impl Tested for Spellings {
 
 #[test]
 fn spellings_have_their_answers(rt: HostRuntime) -> Failing {
-    walk_all(&Spellings, rt.alloc(), &[SPELLINGS], 54)
+    walk_all(&Spellings, rt.alloc(), &[SPELLINGS], 58)
 }
 
 const FLAGS: RegSet = RegSet { bits: 1 << 64 };
@@ -225,7 +230,7 @@ fn is_refused(alloc: Global, count: usize) -> Result<bool, AllocError> {
         third: &[],
         fourth: &[],
     };
-    let found = read_form(&table, alloc, &words);
+    let found = read_form(&table, alloc, &words, &mut Symbols::new(alloc));
     Ok(found == Err(FormErr::Refused(FormReason::BadOperand)))
 }
 

@@ -6,6 +6,7 @@ pub use costs::Costs;
 pub use issue::Issue;
 pub use sl_base::NoMemory;
 pub use sl_model::schedule::{CostRow, Forward};
+pub use tally::Tally;
 
 mod costs;
 mod issue;

@@ -1,8 +1,4 @@
 pub mod ForCallers
-pub mod Forced
-pub mod FoundLemmas
-pub mod Keys
-pub mod ListingLemmas
 pub mod LoopSteps
 pub mod PlacedLemmas
 pub mod PlacedSets

@@ -9,7 +9,6 @@ use Rattle.sl_model.specs.declared.schedule.Source.{Source}
 use Rattle.sl_model.specs.Cycles.{CostTable, Issued, timed_from, cycle_of, row_of, ready_at, ready_from, next_cycle}
 use Rattle.sl_model.specs.Legal.{Problem}
 use Rattle.legal_space.specs.Timed.{HasCycles}
-use Rattle.legal_space.specs.Listing.{is_known}
 use Rattle.sl_laws.proofs.Elements.{reverse_take-more}
 
 -- what one operand waits for and what those behind it wait for, taken one after the other
@@ -114,16 +113,3 @@ item-known items schedule k d known within =
     let unknown : list_all (λ c. nat_lt c.item items) schedule ≡ false = list_all_at (λ c. nat_lt c.item items) schedule k d within test in
     cc)
     (cases_Bool (nat_lt (get_or schedule k d).item items))
-
--- known choices are of items of the problem, and of units below 16
-pub known_items : (problem : Problem) (choices : List Choice) → list_all (is_known problem) choices ≡ true → IsTrue (list_all (λ c. nat_lt c.item (length problem.graph.items)) choices)
-known_items problem [] all = refl
-known_items problem (c ∷ choices) all =
-    let parts = and_parts (is_known problem c) (list_all (is_known problem) choices) all in
-    ap₂ (λ a b. a && b) (and_parts (nat_lt c.item (length problem.graph.items)) (nat_lt c.unit 16) parts.0).0 (known_items problem choices parts.1)
-
-pub known_units : (problem : Problem) (choices : List Choice) → list_all (is_known problem) choices ≡ true → IsTrue (list_all (λ c. nat_lt c.unit 16) choices)
-known_units problem [] all = refl
-known_units problem (c ∷ choices) all =
-    let parts = and_parts (is_known problem c) (list_all (is_known problem) choices) all in
-    ap₂ (λ a b. a && b) (and_parts (nat_lt c.item (length problem.graph.items)) (nat_lt c.unit 16) parts.0).1 (known_units problem choices parts.1)

@@ -1,17 +1,16 @@
 //! Problems of scheduling: items, what they read, and what a schedule of them has to keep.
 #![tactic(auto)]
 
-pub use listing::best_schedule;
-pub use placed::given;
+pub use outputs::{may_overwrite, suits_output};
+pub use placed::{given, is_placed};
 pub use problem::Problem;
-pub use rules::first_broken;
+pub use registers::is_flags;
+pub use rules::{first_broken, has_unit};
 pub use sl_model::rules::Rule;
 pub use sl_model::schedule::{Choice, Source};
-pub use straight::written;
+pub use straight::{frame_of, written};
 pub use times::{Times, times_of};
 
-mod best;
-mod listing;
 mod operands;
 mod outputs;
 mod placed;

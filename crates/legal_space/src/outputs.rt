@@ -49,8 +49,16 @@ fn suit_outputs(problem: &Problem, choice: &Choice) -> bool
         })
 }
 
-// May the output at a place, of a class and with its original register, go to a register?
-fn suits_output(problem: &Problem, item: u16, place: usize, reg: Reg, set: RegSet, own: Reg) -> bool
+/// May the output at a place of an item, of a class and with its original register, go to a
+/// register, as far as L4 says of it alone?
+pub fn suits_output(
+    problem: &Problem,
+    item: u16,
+    place: usize,
+    reg: Reg,
+    set: RegSet,
+    own: Reg,
+) -> bool
     ensures { result ≡ suits_output problem.now item (place, ((reg, set), own)) }
 {
     if !set_has(problem.allowed_for(item), reg) {

@@ -4,6 +4,8 @@ ghost use Rattle.std.specs.List.{list_all};
 ghost use Rattle.sl_model.specs.Source.{item_at};
 ghost use Rattle.sl_model.specs.Legal.{sources_in, info_in, allowed_in};
 ghost use Rattle.sl_model.specs.declared.limits.TheConstants.{ITEMS};
+ghost use Rattle.search_space.specs.Searchable.{IsSearchable};
+ghost use Rattle.legal_space.specs.Problems.{HasRoom};
 ghost use Rattle.legal_space.specs.Timed.{is_known_source};
 
 use dataflow::Graph;
@@ -26,8 +28,8 @@ pub struct Problem {
 }
 
 impl Model for Problem {
-    ghost use Rattle.std.specs.Prelude.{◌≡◌, length};
     ghost use Rattle.sl_model.specs.Legal.{Problem};
+    ghost use Rattle.legal_space.specs.Problems.{IsProblem};
 
     ghost Value = { Problem };
 
@@ -39,8 +41,13 @@ impl Model for Problem {
       looped = a.looped;
     } };
 
-    ghost invariant = { λ a. (length a.costs.rows ≡ length a.graph.items)
-        × (length a.allowed.items ≡ length a.graph.items) };
+    ghost invariant = { λ a. IsProblem (record {
+      graph = a.graph;
+      finals = a.finals.items;
+      allowed = a.allowed.items;
+      costs = a.costs;
+      looped = a.looped;
+    }) };
 }
 
 impl Problem {
@@ -65,6 +72,8 @@ impl Problem {
           looped = looped;
         }) }
     {
+        graph.is_sound();
+        look_at_all(graph, costs);
         let graph = graph.copy(alloc)?;
         let finals = Vec::from_slice(alloc, finals).map_err(AllocError::from)?;
         let allowed = Vec::from_slice(alloc, allowed).map_err(AllocError::from)?;
@@ -87,6 +96,16 @@ impl Problem {
         ensures allowed { length self.now.allowed ≡ length self.now.graph.items }
     {
         self.graph.len()
+    }
+
+    /// Its schedules can be listed: each item stands once in its order, below its sources; the form
+    /// of an item has a class for each of its operands and outputs; an item has at most 3 outputs;
+    /// and the core has at most 16 units, and issues at least one item in a cycle.
+    pub fn is_searchable(&self)
+        ensures { IsSearchable self.now }
+    {
+        // A look inside is all that the proof needs.
+        let _ = self.graph.len();
     }
 
     /// The graph of the items.
@@ -165,3 +184,26 @@ impl Problem {
         self.graph.sources_of(item)
     }
 }
+
+// Each item and its form have room, and the core is wide enough: their types say so, and a look at
+// each is all that the proof needs.
+fn look_at_all(graph: &Graph, costs: &Costs)
+    requires rows { length costs.now.rows ≡ length graph.now.items }
+    ensures room { (p : ℕ) → p < length graph.now.items → HasRoom graph.now costs.now p }
+    ensures width { 1 ≤ costs.now.width }
+{
+    let _ = costs.width();
+    for item in 0..graph.len() as u16 {
+        let instr = graph.item(item);
+        look_at(instr.ins, instr.outs, graph.info(item));
+        let _ = costs.units(item);
+    }
+}
+
+// How many places there are for registers, and for their classes.
+fn look_at(ins: [Option<Reg>; 4], outs: [Option<Reg>; 3], info: FormInfo)
+    ensures ins { length ins ≡ 4 }
+    ensures outs { length outs ≡ 3 }
+    ensures in_sets { length info.in_sets ≡ 4 }
+    ensures out_sets { length info.out_sets ≡ 3 }
+{}

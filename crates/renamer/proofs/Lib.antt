@@ -14,7 +14,7 @@ pub mod LegalityFaithful
 pub mod LegalityFinals
 pub mod LegalityValid
 pub mod LegalityCarries
-pub mod StraightSets
+pub mod Renaming
 pub mod StraightPosed
 pub mod StraightLeaves
 pub mod AppliedLemmas

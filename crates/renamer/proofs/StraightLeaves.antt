@@ -1,16 +1,15 @@
 -- A full legal schedule of a straight list leaves what the list leaves.
-use Rattle.std.proofs.Common.{◌≡◌, ℕ, ◌<◌, Bool, true, false, ◌||◌, List, [], ◌∷◌, ◌++◌, append-nil, map, length, None, Some, ⊎_elim, refl, sym, ap, subst, ◌∙◌, true≢false, slice_get, option_map, is_some, eqb, eq-eqb}
-use Rattle.std.specs.List.{list_any}
-use Rattle.std.proofs.lemmas.List.Folds.{list_any-append}
+use Rattle.std.proofs.Common.{◌≡◌, ℕ, ◌<◌, Bool, true, false, ◌||◌, List, [], ◌∷◌, ◌++◌, map, length, None, Some, ⊎_elim, refl, sym, ap, subst, ◌∙◌, true≢false, slice_get, option_map, eqb, eq-eqb}
 use Rattle.std.proofs.lemmas.Option.{slice_get-map, slice_get-get_or, get_or_from_slice_get}
 use mathlib.Core.List.{reverse_aux}
+use Rattle.sl_model.specs.declared.frame.Frame.{Frame}
 use Rattle.sl_model.specs.declared.register.Reg.{Reg}
 use Rattle.sl_model.specs.declared.instruction.Instr.{Instr}
 use Rattle.sl_model.specs.declared.schedule.Choice.{Choice}
 use Rattle.sl_model.specs.declared.schedule.Source.{Source}
 use Rattle.sl_model.specs.declared.schedule.Source.TheVariants.{Entry}
 use Rattle.sl_model.specs.Register.{same_reg}
-use Rattle.sl_model.specs.RegSets.{set_of, set_has}
+use Rattle.sl_model.specs.RegSets.{set_has, regs_in}
 use Rattle.sl_model.specs.State.{State, byte}
 use Rattle.sl_model.specs.Source.{item_at, no_instr, last_source, list_sources, place_from, output_or, numbers_below}
 use Rattle.sl_model.specs.Cycles.{CostTable}
@@ -19,22 +18,23 @@ use Rattle.sl_model.specs.Exec.{run, touches, touches_of, values_of, memory_afte
 use Rattle.sl_model.specs.Body.{Body, Flow, flow_from, flow_of, source_value, sources_values, chosen, held, stands_in, applied}
 use Rattle.sl_model.specs.Lawful.{IsLawful, AreValid}
 use Rattle.sl_model.specs.Graph.{body_of, list_graph, sources_at}
-use Rattle.sl_model.specs.Legal.{Problem, IsLegalNext, IsLegalFrom, IsFullLegal, allowed_in, straight_problem, written}
-use Rattle.sl_model.specs.Program.{Leaves, TagsHoldOf, is_one_of, times_of}
+use Rattle.sl_model.specs.Legal.{Problem, IsLegalNext, IsLegalFrom, IsFullLegal, allowed_in, straight_problem}
+use Rattle.sl_model.specs.Program.{Program, Leaves, TagsHoldOf, is_one_of, is_live, may_change, writes, times_of}
 use Rattle.sl_model.specs.Program.Program.{Straight}
 use Rattle.renamer.specs.Faithful.{Carries, FlowIsRun, own_body}
 use Rattle.renamer.proofs.SoundGraph.{IsSoundGraph, sound-body}
 use Rattle.renamer.proofs.OrderRun.{order-carries}
-use Rattle.std.proofs.lemmas.Bool.{cases_Bool, or_parts, or_right}
+use Rattle.std.proofs.lemmas.Bool.{cases_Bool, or_cases, or_parts, or_right}
 use Rattle.renamer.proofs.OwnFlow.{own_flow-run}
 use Rattle.renamer.proofs.LegalityRules.{SuitsOutput, suits_outputs}
 use Rattle.renamer.proofs.LegalityFaithful.{legal-faithful}
 use Rattle.renamer.proofs.LegalityFinals.{finals-hold}
-use Rattle.renamer.proofs.StraightSets.{is_one_of-any, set_of-lacks}
 use Rattle.renamer.proofs.StraightPosed.{straight-sound, straight-made}
 use Rattle.sl_laws.proofs.Graphs.{list_graph-sources}
 use Rattle.sl_laws.proofs.Numbers.{below-lt}
-use Rattle.sl_laws.proofs.Registers.{place_from-at, place_from-misses, same_reg-true}
+use Rattle.sl_laws.proofs.Registers.{place_from-misses, same_reg-true}
+use Rattle.sl_laws.proofs.Members.{has-place}
+use Rattle.sl_laws.proofs.MachineRegs.{has-regs_in}
 use Rattle.sl_model.specs.Machine.{space_of}
 
 -- an item of a flow, by its instruction and its sources
@@ -59,62 +59,55 @@ straight-flow isa items s =
     flow_from-agree isa (item_at items) (sources_at (list_graph isa items)) (list_sources items) (numbers_below (length items)) s (record { values = []; memory = s.memory; touches = [] }) (numbers_below (length items))
     (λ p stands. list_graph-sources isa items p)
 
--- each item may write the registers that the list writes and the free ones
-straight-allowed : (isa : Isa) (items : List Instr) (live free : List Reg) (costs : CostTable) (p : ℕ) → p < length items → allowed_in (straight_problem isa items live free costs) p ≡ set_of (written items ++ free)
-straight-allowed isa items live free costs p within =
-    get_or_from_slice_get (map (λ i. set_of (written items ++ free)) items) p (set_of (written items ++ free)) (record { bits = 0 })
-    (slice_get-map (λ i. set_of (written items ++ free)) items p ∙ ap (option_map (λ i. set_of (written items ++ free))) (slice_get-get_or items p no_instr within))
+-- each item may write the registers that the frame allows
+straight-allowed : (isa : Isa) (items : List Instr) (frame : Frame) (costs : CostTable) (p : ℕ) → p < length items → allowed_in (straight_problem isa items frame costs) p ≡ frame.allowed
+straight-allowed isa items frame costs p within =
+    get_or_from_slice_get (map (λ i. frame.allowed) items) p frame.allowed (record { bits = 0 })
+    (slice_get-map (λ i. frame.allowed) items p ∙ ap (option_map (λ i. frame.allowed)) (slice_get-get_or items p no_instr within))
 
--- no output of a legal choice goes to a register that is neither written nor free
-straight-misses : (isa : Isa) (items : List Instr) (live free : List Reg) (costs : CostTable) (done : List Choice) (c : Choice) (r : Reg) → IsSoundGraph isa (list_graph isa items) → IsLegalNext (straight_problem isa items live free costs) done c → list_any (λ q. same_reg q r) (written items ++ free) ≡ false → place_from 0 r (chosen c) ≡ None
-straight-misses isa items live free costs done c r sound legal lacks = place_from-misses 0 r (chosen c) (λ k q at. ⊎_elim (λ t. absurd (never k q at (same_reg-true q r t))) (λ f. f) (cases_Bool (same_reg q r)))
+-- no output of a legal choice goes to a register that the frame doesn't allow
+straight-misses : (isa : Isa) (items : List Instr) (frame : Frame) (costs : CostTable) (done : List Choice) (c : Choice) (r : Reg) → IsSoundGraph isa (list_graph isa items) → IsLegalNext (straight_problem isa items frame costs) done c → set_has frame.allowed r ≡ false → place_from 0 r (chosen c) ≡ None
+straight-misses isa items frame costs done c r sound legal lacks = place_from-misses 0 r (chosen c) (λ k q at. ⊎_elim (λ t. absurd (never k q at (same_reg-true q r t))) (λ f. f) (cases_Bool (same_reg q r)))
   where
     never : (k : ℕ) (q : Reg) → slice_get (chosen c) k ≡ Some q → q ≡ r → ⊥
     never k q at same =
-        let problem : Problem = straight_problem isa items live free costs in
+        let problem : Problem = straight_problem isa items frame costs in
         let suits : SuitsOutput isa problem c k q = suits_outputs isa problem done c sound legal k q at in
-        let allowed : set_has (set_of (written items ++ free)) q ≡ true =
-        ap (λ set. set_has set q) (sym (straight-allowed isa items live free costs c.item (below-lt (length items) c.item legal.of.known))) ∙ suits.allowed in
-        true≢false (sym allowed ∙ ap (set_has (set_of (written items ++ free))) same ∙ set_of-lacks r (written items ++ free) lacks)
+        let allowed : set_has frame.allowed q ≡ true =
+        ap (λ set. set_has set q) (sym (straight-allowed isa items frame costs c.item (below-lt (length items) c.item legal.of.known))) ∙ suits.allowed in
+        true≢false (sym allowed ∙ ap (set_has frame.allowed) same ∙ lacks)
 
 -- so such a register holds what it held before
-straight-keeps : (isa : Isa) (items : List Instr) (live free : List Reg) (costs : CostTable) (done choices : List Choice) (r : Reg) → IsSoundGraph isa (list_graph isa items) → IsLegalFrom (straight_problem isa items live free costs) done choices → list_any (λ q. same_reg q r) (written items ++ free) ≡ false → held done r ≡ Entry r → held (reverse_aux choices done) r ≡ Entry r
+straight-keeps : (isa : Isa) (items : List Instr) (frame : Frame) (costs : CostTable) (done choices : List Choice) (r : Reg) → IsSoundGraph isa (list_graph isa items) → IsLegalFrom (straight_problem isa items frame costs) done choices → set_has frame.allowed r ≡ false → held done r ≡ Entry r → held (reverse_aux choices done) r ≡ Entry r
 unfolding held
-straight-keeps isa items live free costs done [] r sound legal lacks holds = holds
-straight-keeps isa items live free costs done (c ∷ choices) r sound legal lacks holds =
-    straight-keeps isa items live free costs (c ∷ done) choices r sound legal.1 lacks
-    (ap (λ o. output_or c.item o (held done r)) (straight-misses isa items live free costs done c r sound legal.0 lacks) ∙ holds)
+straight-keeps isa items frame costs done [] r sound legal lacks holds = holds
+straight-keeps isa items frame costs done (c ∷ choices) r sound legal lacks holds =
+    straight-keeps isa items frame costs (c ∷ done) choices r sound legal.1 lacks
+    (ap (λ o. output_or c.item o (held done r)) (straight-misses isa items frame costs done c r sound legal.0 lacks) ∙ holds)
 
--- a register that is neither written nor live nor free is neither written nor free
-neither : (r : Reg) (written live free : List Reg) → is_one_of r (written ++ (live ++ free)) ≡ false → list_any (λ q. same_reg q r) (written ++ free) ≡ false
-neither r written live free none =
-    let test : Reg → Bool = λ q. same_reg q r in
-    let apart : (list_any test written || list_any test (live ++ free)) ≡ false = sym (list_any-append test written (live ++ free)) ∙ sym (is_one_of-any r (written ++ (live ++ free))) ∙ none in
-    let rest : (list_any test live || list_any test free) ≡ false = sym (list_any-append test live free) ∙ (or_parts (list_any test written) (list_any test (live ++ free)) apart).1 in
-    list_any-append test written free
-    ∙ ap (λ b. b || list_any test free) (or_parts (list_any test written) (list_any test (live ++ free)) apart).0
-    ∙ (or_parts (list_any test live) (list_any test free) rest).1
+-- what is live behind a straight list is a register of the frame
+straight-live : (items : List Instr) (frame : Frame) (r : Reg) → is_live frame (Straight items) r ≡ true → set_has frame.live r ≡ true
+unfolding place_from
+straight-live items frame r live = ⊎_elim (λ in_set. in_set) (λ no. absurd (true≢false (sym no))) (or_cases (set_has frame.live r) false live)
 
--- a register that is one of some stands among them
-is_one_of-at : (r : Reg) (regs : List Reg) → is_one_of r regs ≡ true → (k : ℕ) × (slice_get regs k ≡ Some r)
-is_one_of-at r regs one =
-    elim (place_from 0 r regs) as (λ o. place_from 0 r regs ≡ o → is_some o ≡ true → (k : ℕ) × (slice_get regs k ≡ Some r)) [
-      | None ↦ λ is some. absurd (true≢false (sym some))
-      | Some place ↦ λ is some. let found = place_from-at 0 r regs place is in (found.0, found.2)
-    ] refl one
+-- a register that may not be changed isn't allowed
+unchanged-foreign : (decrement : Bool → Reg → Instr) (frame : Frame) (old : Program) (r : Reg) → may_change decrement frame old r ≡ false → set_has frame.allowed r ≡ false
+unchanged-foreign decrement frame old r none =
+    (or_parts (set_has frame.live r) (set_has frame.allowed r)
+    (or_parts (is_one_of r (writes decrement old)) (set_has frame.live r || set_has frame.allowed r) none).1).1
 
--- a live-out register stands among the finals with its last writer
-final_at : (isa : Isa) (items : List Instr) (live free : List Reg) (costs : CostTable) (r : Reg) → is_one_of r (live ++ []) ≡ true → (j : ℕ) × (slice_get (straight_problem isa items live free costs).finals j ≡ Some (r, last_source items r))
-final_at isa items live free costs r one =
-    let found = is_one_of-at r live (sym (ap (is_one_of r) (append-nil live)) ∙ one) in
+-- a live register stands among the finals with its last writer
+final_at : (isa : Isa) (items : List Instr) (frame : Frame) (costs : CostTable) (r : Reg) → set_has frame.live r ≡ true → (j : ℕ) × (slice_get (straight_problem isa items frame costs).finals j ≡ Some (r, last_source items r))
+final_at isa items frame costs r live =
+    let found = has-place r (regs_in frame.live) (has-regs_in frame.live r live) in
     let final : Reg → Reg × Source = λ q. (q, last_source items q) in
-    (found.0, slice_get-map final live found.0 ∙ ap (option_map final) found.1)
+    (found.0, slice_get-map final (regs_in frame.live) found.0 ∙ ap (option_map final) found.1)
 
 -- A full legal schedule of a straight list leaves what the list leaves.
-pub straight-leaves : (isa : Isa) (items : List Instr) (live free : List Reg) (costs : CostTable) (schedule : List Choice) (s : State) (decrement : Bool → Reg → Instr) → IsLawful isa → AreValid isa items → IsFullLegal (straight_problem isa items live free costs) schedule → TagsHoldOf (space_of isa.name) (touches isa items s) → Leaves isa decrement live free (Straight items) (Straight (applied (body_of (list_graph isa items)) schedule)) s
+pub straight-leaves : (isa : Isa) (items : List Instr) (frame : Frame) (costs : CostTable) (schedule : List Choice) (s : State) (decrement : Bool → Reg → Instr) → IsLawful isa → AreValid isa items → IsFullLegal (straight_problem isa items frame costs) schedule → TagsHoldOf (space_of isa.name) (touches isa items s) → Leaves isa decrement frame (Straight items) (Straight (applied (body_of (list_graph isa items)) schedule)) s
 unfolding held
-straight-leaves isa items live free costs schedule s decrement lawful valid legal tags =
-    let problem : Problem = straight_problem isa items live free costs in
+straight-leaves isa items frame costs schedule s decrement lawful valid legal tags =
+    let problem : Problem = straight_problem isa items frame costs in
     let body : Body = body_of problem.graph in
     let sound : IsSoundGraph isa problem.graph = straight-sound isa items valid in
     let own : FlowIsRun isa items s = own_flow-run isa items s lawful valid in
@@ -123,15 +116,15 @@ straight-leaves isa items live free costs schedule s decrement lawful valid lega
     let memory : (flow_of isa body s).memory ≡ (run isa items s).memory = ap (λ (flow : Flow). flow.memory) one ∙ sym own.memory in
     let carried : Carries isa body schedule s = order-carries isa body s lawful (sound-body isa problem.graph sound) (subst (TagsHoldOf (space_of isa.name)) accesses tags) schedule (legal-faithful isa problem [] schedule lawful sound legal.legal) legal.full in
     record {
-      registers = λ r live_out.
-          let final = final_at isa items live free costs r live_out in
+      registers = λ r live.
+          let final = final_at isa items frame costs r (straight-live items frame r live) in
           carried.registers r
-          ∙ ap (source_value s (flow_of isa body s).values) (finals-hold isa problem schedule sound (straight-made isa items live free costs) legal final.0 r (last_source items r) final.1)
+          ∙ ap (source_value s (flow_of isa body s).values) (finals-hold isa problem schedule sound (straight-made isa items frame costs) legal final.0 r (last_source items r) final.1)
           ∙ ap (λ (flow : Flow). source_value s flow.values (last_source items r)) one
           ∙ sym (own.registers r);
       bytes = λ address. carried.bytes address ∙ ap (λ m. byte m address) memory;
       others = λ r concrete none.
           carried.registers r
-          ∙ ap (source_value s (flow_of isa body s).values) (straight-keeps isa items live free costs [] schedule r sound legal.legal (neither r (written items) live free none) refl);
+          ∙ ap (source_value s (flow_of isa body s).values) (straight-keeps isa items frame costs [] schedule r sound legal.legal (unchanged-foreign decrement frame (Straight items) r none) refl);
       access_counts = λ a. carried.access_counts a ∙ ap (times_of a) (sym accesses);
     }

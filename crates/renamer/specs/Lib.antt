@@ -1,4 +1,5 @@
 pub mod Faithful
 pub mod Outcome
+pub mod Renamings
 pub mod WellPosed
 pub mod Written

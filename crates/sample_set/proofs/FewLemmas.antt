@@ -1,6 +1,6 @@
 -- What the code of the small instruction set gives: accesses, stored bytes and examples.
-use Rattle.std.proofs.Common.{◌≡◌, ℕ, ◌+◌, ◌%◌, ◌^◌, ◌<◌, true, false, List, [], length, slice_index, Option, None, Some, refl, sym, ap, arith, add-zero}
-use Rattle.std.proofs.lemmas.Bool.{and_from, eq-eqb, lt-ltb, le-leb}
+use Rattle.std.proofs.Common.{◌≡◌, ◌≢◌, ◌∙◌, ℕ, ◌+◌, ◌%◌, ◌^◌, ◌<◌, ◌==◌, true, false, cond, filter, List, [], ◌∷◌, length, slice_index, Option, None, Some, ⊎_elim, refl, sym, ap, arith, add-zero}
+use Rattle.std.proofs.lemmas.Bool.{and_from, cases_Bool, eq-eqb, eqb-true, lt-ltb, le-leb}
 use Rattle.std.specs.Prelude.{if◌then◌else◌}
 use Rattle.std.proofs.Math.Nat.{mod-add-mod}
 use Rattle.std.specs.List.{list_all, filter_map, zip}
@@ -12,7 +12,7 @@ use Rattle.sl_model.specs.Body.{all_differ}
 use Rattle.sl_model.specs.Source.{padded, place_from}
 use Rattle.sl_model.specs.Isa.{address_at}
 use Rattle.sl_model.specs.Exec.{has_access, is_store, base_value}
-use Rattle.sl_model.specs.Lawful.{IsValid, suits_set, is_tied_to}
+use Rattle.sl_model.specs.Lawful.{IsValid, suits_set, is_tied_to, is_alone, is_base_alone}
 use Rattle.sl_isa.specs.Arch.{access_of, stored_by}
 use Rattle.sample_set.specs.declared.forms.Form.{Form}
 use Rattle.sample_set.specs.FewLines.{placed, sum_of, subs_of, load_of, store_of}
@@ -55,18 +55,19 @@ pub record Suits (form : Form) (ins outs : List (Option Reg)) : Type 0 where
   output_classes : list_all suits_set (zip (filter_map (λ r. r) outs) (info_of form).out_sets) ≡ true
   distinct : all_differ (filter_map (λ r. r) outs) ≡ true
   tied : list_all (is_tied_to (filter_map (λ r. r) ins)) (zip (filter_map (λ r. r) outs) (info_of form).tied) ≡ true
+  base_apart : is_base_alone same_reg (info_of form) (filter_map (λ r. r) ins) ≡ true
 
 example_suits : (form : Form) → Suits form (example_ins form) (example_outs form)
 unfolding set_has set_count all_differ place_from same_reg
 example_suits = each (λ form. Suits form (example_ins form) (example_outs form))
-    (record { ins_shape = refl; outs_shape = refl; operand_count = refl; output_count = refl; operand_classes = refl; output_classes = refl; distinct = refl; tied = refl })
-    (record { ins_shape = refl; outs_shape = refl; operand_count = refl; output_count = refl; operand_classes = refl; output_classes = refl; distinct = refl; tied = refl })
-    (record { ins_shape = refl; outs_shape = refl; operand_count = refl; output_count = refl; operand_classes = refl; output_classes = refl; distinct = refl; tied = refl })
-    (record { ins_shape = refl; outs_shape = refl; operand_count = refl; output_count = refl; operand_classes = refl; output_classes = refl; distinct = refl; tied = refl })
-    (record { ins_shape = refl; outs_shape = refl; operand_count = refl; output_count = refl; operand_classes = refl; output_classes = refl; distinct = refl; tied = refl })
-    (record { ins_shape = refl; outs_shape = refl; operand_count = refl; output_count = refl; operand_classes = refl; output_classes = refl; distinct = refl; tied = refl })
-    (record { ins_shape = refl; outs_shape = refl; operand_count = refl; output_count = refl; operand_classes = refl; output_classes = refl; distinct = refl; tied = refl })
-    (record { ins_shape = refl; outs_shape = refl; operand_count = refl; output_count = refl; operand_classes = refl; output_classes = refl; distinct = refl; tied = refl })
+    (record { ins_shape = refl; outs_shape = refl; operand_count = refl; output_count = refl; operand_classes = refl; output_classes = refl; distinct = refl; tied = refl; base_apart = refl })
+    (record { ins_shape = refl; outs_shape = refl; operand_count = refl; output_count = refl; operand_classes = refl; output_classes = refl; distinct = refl; tied = refl; base_apart = refl })
+    (record { ins_shape = refl; outs_shape = refl; operand_count = refl; output_count = refl; operand_classes = refl; output_classes = refl; distinct = refl; tied = refl; base_apart = refl })
+    (record { ins_shape = refl; outs_shape = refl; operand_count = refl; output_count = refl; operand_classes = refl; output_classes = refl; distinct = refl; tied = refl; base_apart = refl })
+    (record { ins_shape = refl; outs_shape = refl; operand_count = refl; output_count = refl; operand_classes = refl; output_classes = refl; distinct = refl; tied = refl; base_apart = refl })
+    (record { ins_shape = refl; outs_shape = refl; operand_count = refl; output_count = refl; operand_classes = refl; output_classes = refl; distinct = refl; tied = refl; base_apart = refl })
+    (record { ins_shape = refl; outs_shape = refl; operand_count = refl; output_count = refl; operand_classes = refl; output_classes = refl; distinct = refl; tied = refl; base_apart = refl })
+    (record { ins_shape = refl; outs_shape = refl; operand_count = refl; output_count = refl; operand_classes = refl; output_classes = refl; distinct = refl; tied = refl; base_apart = refl })
 
 -- an instruction in registers that its form takes is one of the set
 placed_valid : (form number : ℕ) (ins outs : List (Option Reg)) (tag : Option ℕ) → form < 8 → number < 64 → Suits (form_of form) ins outs → IsValid few_isa (placed form number ins outs tag)
@@ -82,11 +83,16 @@ placed_valid form number ins outs tag known small suits =
       output_classes = suits.output_classes;
       distinct = suits.distinct;
       tied = suits.tied;
+      base_apart = suits.base_apart;
     }
 
 -- each example is an instruction of the set
 pub example_valid : (form number : ℕ) → form < 8 → number < 64 → IsValid few_isa (example form number)
 example_valid form number known small = placed_valid form number (example_ins (form_of form)) (example_outs (form_of form)) None known small (example_suits (form_of form))
+
+-- an x register
+abbrev x : ℕ → Reg
+x n = record { bank = General; symbolic = false; number = n }
 
 -- an x register is of the class of x registers
 has_x : (n : ℕ) → n < 31 → set_has x_registers (record { bank = General; symbolic = false; number = n }) ≡ true
@@ -105,6 +111,7 @@ sum_valid out left right o l r = placed_valid 0 0 _ _ None (omega arith) (omega 
   output_classes = and_from _ _ (has_x out o) refl;
   distinct = refl;
   tied = refl;
+  base_apart = refl;
 })
 
 pub subs_valid : (out from number : ℕ) → out < 31 → from < 31 → number < 64 → IsValid few_isa (subs_of out from number)
@@ -118,6 +125,7 @@ subs_valid out from number o f small = placed_valid 4 number _ _ None (omega ari
   output_classes = and_from _ _ (has_x out o) refl;
   distinct = refl;
   tied = refl;
+  base_apart = refl;
 })
 
 pub load_valid : (out base offset : ℕ) (tag : Option ℕ) → out < 31 → base < 31 → offset < 64 → IsValid few_isa (load_of out base offset tag)
@@ -131,11 +139,23 @@ load_valid out base offset tag o b small = placed_valid 6 offset _ _ tag (omega 
   output_classes = and_from _ _ (has_x out o) refl;
   distinct = refl;
   tied = refl;
+  base_apart = refl;
 })
 
-pub store_valid : (value base step : ℕ) (tag : Option ℕ) → value < 31 → base < 31 → step < 64 → IsValid few_isa (store_of value base step tag)
+-- two registers that differ in their numbers are told apart
+x_differ : (a b : ℕ) → a ≢ b → same_reg (x a) (x b) ≡ false
+unfolding same_reg
+x_differ a b apart = ⊎_elim (λ (same : (a == b) ≡ true). absurd (apart (eqb-true a b same))) (λ (other : (a == b) ≡ false). other) (cases_Bool (a == b))
+
+-- a base is alone behind another register
+base_alone : (value base : ℕ) → value ≢ base → is_alone same_reg (x value ∷ x base ∷ []) (Some (x base)) ≡ true
+base_alone value base apart =
+    ap (λ b. length (cond b (x value ∷ filter (same_reg (x base)) (x base ∷ [])) (filter (same_reg (x base)) (x base ∷ []))) == 1) (x_differ base value (λ e. apart (sym e)))
+    ∙ ap (λ b. length (cond b (x base ∷ []) []) == 1) (same_reg-refl (x base))
+
+pub store_valid : (value base step : ℕ) (tag : Option ℕ) → value < 31 → base < 31 → value ≢ base → step < 64 → IsValid few_isa (store_of value base step tag)
 unfolding set_count all_differ place_from
-store_valid value base step tag v b small = placed_valid 7 step _ _ tag (omega arith) small (record {
+store_valid value base step tag v b apart small = placed_valid 7 step _ _ tag (omega arith) small (record {
   ins_shape = refl;
   outs_shape = refl;
   operand_count = refl;
@@ -144,4 +164,5 @@ store_valid value base step tag v b small = placed_valid 7 step _ _ tag (omega a
   output_classes = and_from _ _ (has_x base b) refl;
   distinct = refl;
   tied = and_from _ _ (same_reg-refl (record { bank = General; symbolic = false; number = base })) refl;
+  base_apart = base_alone value base apart;
 })

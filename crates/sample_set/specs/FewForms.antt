@@ -167,8 +167,9 @@ few_step op counter line = record {
 unfoldable pub few : Language
 few = record {
   isa = few_isa;
-  reads = λ words. Err UnknownMnemonic;
-  printed = λ i. [];
+  pairs_in = λ words. [];
+  reads = λ pairs words. Err UnknownMnemonic;
+  printed = λ pairs i. [];
   step_of = few_step;
 }
 

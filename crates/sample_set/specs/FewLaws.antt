@@ -227,6 +227,7 @@ steps_of (Sub by) General false number line counts step = record {
     output_classes = and_from _ _ (counter_suits number counts) refl;
     distinct = refl;
     tied = refl;
+    base_apart = refl;
   };
   plain = (refl, refl, refl, refl);
   no_access = refl;
@@ -245,6 +246,7 @@ steps_of Subs General false number line counts step = record {
     output_classes = and_from _ _ (counter_suits number counts) (flags_suit);
     distinct = refl;
     tied = refl;
+    base_apart = refl;
   };
   plain = (refl, refl, refl, refl);
   no_access = refl;
@@ -263,6 +265,7 @@ steps_of (Lsr by) General false number line counts step = record {
     output_classes = and_from _ _ (counter_suits number counts) refl;
     distinct = refl;
     tied = refl;
+    base_apart = refl;
   };
   plain = (refl, refl, refl, refl);
   no_access = refl;

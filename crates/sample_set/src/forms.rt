@@ -9,7 +9,7 @@ ghost use Rattle.sample_set.specs.Laws.{few_language};
 use sl_base::NoMemory;
 use sl_isa::{
     Access, Arch, ArchName, Bank, CounterOp, FormErr, FormInfo, FormReason, Instr, Outs, Reg,
-    RegSet,
+    RegSet, Symbols,
 };
 use sl_text::Token;
 use std::alloc::Global;
@@ -181,11 +181,21 @@ impl Arch for FewForms {
         offset_of(form_of(instr.form), number_in(instr))
     }
 
-    fn read_form(&self, _alloc: Global, _tokens: &[Token<'_>]) -> Result<Instr, FormErr> {
+    fn read_form(
+        &self,
+        _alloc: Global,
+        _tokens: &[Token<'_>],
+        _symbols: &mut Symbols,
+    ) -> Result<Instr, FormErr> {
         Err(FormErr::Refused(FormReason::UnknownMnemonic))
     }
 
-    fn print_form(&self, _instr: &Instr, _out: &mut Vec<u8>) -> Result<(), NoMemory> {
+    fn print_form(
+        &self,
+        _instr: &Instr,
+        _symbols: &Symbols,
+        _out: &mut Vec<u8>,
+    ) -> Result<(), NoMemory> {
         Ok(())
     }
 

@@ -1,5 +1,5 @@
 //! Instructions of the small set in registers of choice.
-ghost use Rattle.std.specs.Prelude.{◌≡◌, ◌<◌};
+ghost use Rattle.std.specs.Prelude.{◌≡◌, ◌≢◌, ◌<◌};
 ghost use Rattle.sl_model.specs.Lawful.{IsValid};
 ghost use Rattle.sample_set.specs.FewForms.{few};
 ghost use Rattle.sample_set.specs.FewLines.{sum_of, subs_of, load_of, store_of};
@@ -71,10 +71,11 @@ fn plain_load(out: u16, base: u16, offset: u8, tag: Option<u16>) -> Instr
     }
 }
 
-/// A store of the two low bytes of a register at another, which it moves on, with a tag.
+/// A store of the two low bytes of a register at another one, which it moves on, with a tag.
 pub fn store_of(value: u16, base: u16, step: u8, tag: Option<u16>) -> Instr
     requires value { value < 31 }
     requires base { base < 31 }
+    requires apart { value ≢ base }
     requires step { step < 64 }
     ensures is { result ≡ store_of value base step tag }
     ensures valid { IsValid few.isa result }

@@ -1,9 +1,9 @@
 //! A schedule as a list of instructions, worked out by hand.
 
 use crate::lines::{Line, general, items_of};
-use crate::problems::{ROW, are_known};
+use crate::problems::{NONE, ROW, are_known};
 use issue_cost::{Costs, NoMemory};
-use legal_space::{Choice, Problem};
+use legal_space::{Choice, Problem, frame_of};
 use renamer::apply;
 use sample_set::{Failing, FewForms};
 use std::alloc::Global;
@@ -64,7 +64,8 @@ const TWICE: Case = Case {
 fn is_right(alloc: Global, case: &Case) -> Result<bool, NoMemory> {
     let items = items_of(alloc, &case.items)?;
     let costs = Costs::new(alloc, 1, &[ROW; 3], &[])?;
-    let problem = Problem::straight(&FewForms, alloc, &items, &[], &[], &costs)?;
+    let frame = frame_of(alloc, &items, None, NONE)?;
+    let problem = Problem::straight(&FewForms, alloc, &items, frame, &costs)?;
     let schedule = case.schedule.map(choice);
     if !are_known(&schedule, 3) {
         return Ok(false);

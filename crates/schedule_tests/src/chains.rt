@@ -5,9 +5,9 @@ ghost use Rattle.issue_cost.specs.Sound.{is_sound_row};
 ghost use Rattle.sl_model.specs.declared.limits.TheConstants.{ITEMS};
 
 use crate::lines::{Line, general, items_of};
-use crate::problems::{ROW, are_known, have_units};
+use crate::problems::{NONE, ROW, are_known, have_units};
 use issue_cost::{CostRow, Costs, Forward, Issue, NoMemory};
-use legal_space::{Choice, Problem, times_of};
+use legal_space::{Choice, Problem, frame_of, times_of};
 use renamer::apply;
 use sample_set::{Failing, FewForms};
 use std::alloc::{AllocError, Global};
@@ -21,7 +21,8 @@ fn is_sound(row: &CostRow) -> bool
     0 < row.units && (0 < row.busy && (0 < row.latency && 0 < row.writeback))
 }
 
-fn are_sound(rows: &[CostRow]) -> bool
+/// Is each row one that a core may have?
+pub fn are_sound(rows: &[CostRow]) -> bool
     ensures { result ≡ list_all is_sound_row rows.now }
 {
     rows.iter().all(|row| is_sound(row))
@@ -46,7 +47,8 @@ fn chain_of(alloc: Global, count: usize) -> Result<Problem, NoMemory>
     let lines = vec![in alloc; Line::Sum(1, 1, 0); count]?;
     let items = items_of(alloc, &lines)?;
     let costs = costs_of(alloc, items.len())?;
-    Problem::straight(&FewForms, alloc, &items, &[general(1)], &[], &costs)
+    let frame = frame_of(alloc, &items, None, NONE)?;
+    Problem::straight(&FewForms, alloc, &items, frame, &costs)
 }
 
 /// The items in their own order, each on unit 0 and in its own register.

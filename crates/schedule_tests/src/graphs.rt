@@ -192,7 +192,7 @@ fn sets_have_their_members(rt: HostRuntime) -> Failing {
 fn the_longest_graph_is_made(rt: HostRuntime) -> Result<Failing, NoMemory> {
     let alloc = rt.alloc();
     let mut failing = Failing::new(alloc);
-    let items = items_of(alloc, &[Line::Store(1, 1, 0, None); 64])?;
+    let items = items_of(alloc, &[Line::Store(2, 1, 0, None); 64])?;
     let graph = Graph::build(&FewForms, alloc, &items)?.copy(alloc)?;
     failing.check(
         "64 items",

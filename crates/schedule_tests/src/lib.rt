@@ -4,7 +4,11 @@
 #[cfg(test)]
 mod applying;
 #[cfg(test)]
+mod bounds;
+#[cfg(test)]
 mod chains;
+#[cfg(test)]
+mod choosing;
 #[cfg(test)]
 mod graphs;
 #[cfg(test)]
@@ -13,3 +17,5 @@ mod issue;
 mod lines;
 #[cfg(test)]
 mod problems;
+#[cfg(test)]
+mod search;

@@ -64,7 +64,7 @@ fn load(out: u16, base: u16, offset: u8, tag: Option<u16>) -> Option<Instr>
 fn store(value: u16, base: u16, step: u8, tag: Option<u16>) -> Option<Instr>
     ensures { IfSome result (λ i. IsValid few.isa i) }
 {
-    if value < 31 && base < 31 && step < 64 {
+    if value < 31 && base < 31 && value != base && step < 64 {
         Some(store_of(value, base, step, tag))
     } else {
         None

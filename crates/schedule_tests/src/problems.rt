@@ -4,9 +4,11 @@ ghost use Rattle.std.specs.List.{list_all};
 
 use crate::lines::{Line, general, items_of};
 use issue_cost::{CostRow, Costs, NoMemory};
-use legal_space::{Choice, Problem, Source, Times, times_of, written};
+use legal_space::{Choice, Problem, Source, Times, frame_of, times_of, written};
 use sample_set::{Failing, FewForms};
-use sl_isa::sets::set_of;
+use sl_isa::register_in;
+use sl_isa::sets::{regs_in, set_of};
+use sl_model::register::{Bank, RegSet};
 use std::alloc::Global;
 
 /// A chain of three instructions.
@@ -21,7 +23,8 @@ fn a_chain_reads_what_stands_above(rt: HostRuntime) -> Result<Failing, NoMemory>
     failing.check("what is written", outs.bits == 0b1100);
     let costs = Costs::new(alloc, 1, &[ROW; 3], &[])?;
     let live = [general(2), general(9)];
-    let problem = Problem::straight(&FewForms, alloc, &items, &live, &[general(5)], &costs)?;
+    let frame = frame_of(alloc, &items, Some(set_of(&live)), set_of(&[general(5)]))?;
+    let problem = Problem::straight(&FewForms, alloc, &items, frame, &costs)?;
     failing.check("the items", problem.len() == 3);
     failing.check("the order", problem.order() == &[0, 1, 2][..]);
     let first = Source::Item { index: 0, place: 0 };
@@ -36,6 +39,65 @@ fn a_chain_reads_what_stands_above(rt: HostRuntime) -> Result<Failing, NoMemory>
     failing.check("two items", problem.sources_of(2) == &[second, first][..]);
     failing.check("the finals", problem.finals() == &finals[..]);
     failing.check("what is allowed", problem.allowed_for(1).bits == 0b10_1100);
+    Ok(failing)
+}
+
+/// No register.
+pub const NONE: RegSet = RegSet { bits: 0 };
+
+/// A name, the live registers that are given, the free ones, and the live and the allowed ones.
+type Framed = (&'static str, Option<u128>, u128, (u128, u128));
+
+const FRAMED: [Framed; 4] = [
+    ("nothing said", None, 0, (0b1100, 0b1100)),
+    ("live registers", Some(0b100100), 0, (0b100100, 0b1100)),
+    ("none live", Some(0), 0, (0, 0b1100)),
+    ("free registers", None, 0b100100, (0b1100, 0b101100)),
+];
+
+/// Has the chain the frame that it should have?
+fn is_framed(alloc: Global, case: &Framed) -> Result<bool, NoMemory> {
+    let (_, live, free, want) = *case;
+    let items = items_of(alloc, &CHAIN)?;
+    let live = live.map(|bits| RegSet { bits });
+    let frame = frame_of(alloc, &items, live, RegSet { bits: free })?;
+    Ok((frame.live.bits, frame.allowed.bits) == want)
+}
+
+#[test]
+fn what_is_written_is_live_unless_told_otherwise(rt: HostRuntime) -> Failing {
+    let mut failing = Failing::new(rt.alloc());
+    for case in &FRAMED {
+        failing.check(case.0, is_framed(rt.alloc(), case) == Ok(true));
+    }
+    failing
+}
+
+/// The first and the last register of each bank.
+const ENDS: [(Bank, u16); 6] = [
+    (Bank::General, 0),
+    (Bank::General, 31),
+    (Bank::Vector, 0),
+    (Bank::Vector, 31),
+    (Bank::Flags, 0),
+    (Bank::Stack, 0),
+];
+
+#[test]
+fn the_registers_of_a_set_stand_in_their_order(rt: HostRuntime) -> Result<Failing, NoMemory> {
+    let alloc = rt.alloc();
+    let mut failing = Failing::new(alloc);
+    let all = regs_in(alloc, RegSet { bits: u128::MAX })?;
+    failing.check("all", all.len() == 66);
+    let ends = regs_in(
+        alloc,
+        RegSet {
+            bits: 0b11 << 64 | 1 << 63 | 0b11 << 31 | 1,
+        },
+    )?;
+    let want = ENDS.map(|(bank, number)| register_in(bank, number));
+    failing.check("the ends of the banks", ends.as_slice() == &want[..]);
+    failing.check("none", regs_in(alloc, NONE)?.is_empty());
     Ok(failing)
 }
 
@@ -58,7 +120,8 @@ fn three_items(alloc: Global) -> Result<Problem, NoMemory>
         &[Line::Sum(1, 0, 0), Line::Sum(2, 1, 1), Line::Sum(3, 0, 0)],
     )?;
     let costs = Costs::new(alloc, 1, &[ROW; 3], &[])?;
-    Problem::straight(&FewForms, alloc, &items, &[], &[], &costs)
+    let frame = frame_of(alloc, &items, Some(NONE), NONE)?;
+    Problem::straight(&FewForms, alloc, &items, frame, &costs)
 }
 
 /// Is each choice of one of so many items?

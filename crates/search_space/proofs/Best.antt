@@ -4,11 +4,10 @@ use Rattle.std.proofs.lemmas.Bool.{cases_Bool, leb-true, le-leb, leb-false}
 use Rattle.sl_model.specs.declared.schedule.Choice.{Choice}
 use Rattle.sl_model.specs.Legal.{Problem}
 use Rattle.sl_model.specs.Space.{InSpace, IsBest, stalls_of, comes_before}
-use Rattle.sl_laws.proofs.Members.{Has, Ordered, has-filter, from-filter, ordered-filter}
+use Rattle.sl_laws.proofs.Members.{Has, Ordered, has-filter, from-filter, ordered-filter, passes-filter}
 use Rattle.search_space.specs.Searchable.{IsSearchable}
 use Rattle.search_space.specs.Going.{full_lists}
 use Rattle.search_space.specs.Best.{better_of, first_fewest, has_at_most, members, best}
-use Rattle.search_space.proofs.Lists.{passes-filter}
 use Rattle.search_space.proofs.Keys.{Comes, comes-not, before-itself}
 use Rattle.search_space.proofs.Full.{full-legal, has-full, ordered-full}
 

@@ -14,7 +14,8 @@ use Rattle.sl_laws.proofs.Members.{Has, Ordered, from-map, from-flat_map, has-ma
 use Rattle.sl_laws.proofs.Padded.{padded-back}
 use Rattle.search_space.proofs.Lists.{ordered-among}
 use Rattle.search_space.proofs.Keys.{Before, first-before, rest-before}
-use Rattle.search_space.proofs.MachineRegs.{bit, RegsBefore, ordered-regs, length-regs}
+use Rattle.sl_laws.proofs.MachineRegs.{bit}
+use Rattle.search_space.proofs.RegLists.{RegsBefore, ordered-regs, length-regs}
 
 -- A choice of a list of choices: its item, its unit and the registers of its outputs.
 pub record IsListed (problem : Problem) (c : Choice) : Type 0 where

@@ -1,9 +1,11 @@
 -- How many items stand in an order, and how many of them aren't placed.
 use Rattle.std.proofs.Common.{◌≡◌, ℕ, zero, suc, ◌+◌, ◌<◌, ◌≤◌, Bool, true, false, ◌&&◌, ◌||◌, eqb, if◌then◌else◌, List, [], ◌∷◌, length, ⊎_elim, refl, sym, ap, ◌∙◌, subst, true≢false, arith}
 use Rattle.std.proofs.lemmas.Bool.{cases_Bool, and_parts, eqb-true, eq-eqb, ne_eqb, or_parts, not-true}
+use Rattle.sl_model.specs.declared.instruction.Instr.{Instr}
 use Rattle.sl_model.specs.declared.schedule.Choice.{Choice}
+use Rattle.sl_model.specs.declared.schedule.Source.{Source}
 use Rattle.sl_model.specs.Body.{is_placed, is_full, stands_in}
-use Rattle.sl_model.specs.Graph.{IsOnce}
+use Rattle.sl_model.specs.Graph.{IsOnce, AreSources}
 use Rattle.sl_model.specs.Legal.{Problem}
 use Rattle.sl_laws.proofs.Rules.{keeps_rules}
 use Rattle.sl_laws.proofs.Orders.{stands_first, stands_behind}
@@ -75,12 +77,14 @@ standing-count n (p ∷ order) once below =
     passing-also (λ k. stands_in k order) p n (below p (stands_first p order)) once.0
     ∙ ap suc (standing-count n order once.1 (λ q stands. below q (stands_behind p q order stands)))
 
+-- In the order of sources stand as many items as there are.
+pub length-standing : (items : List Instr) (order : List ℕ) (sources : List (List Source)) → AreSources items order sources → length order ≡ length items
+length-standing items order sources are =
+    sym (standing-count (length items) order are.once are.known) ∙ passing-all (λ k. stands_in k order) (length items) are.each
+
 -- In the order of a problem stand as many items as it has.
 pub length-order : (problem : Problem) → IsSearchable problem → length problem.graph.order ≡ length problem.graph.items
-length-order problem search =
-    let order = problem.graph.order in
-    let count = length problem.graph.items in
-    sym (standing-count count order search.sources.once search.sources.known) ∙ passing-all (λ k. stands_in k order) count search.sources.each
+length-order problem search = length-standing problem.graph.items problem.graph.order problem.graph.sources search.sources
 
 -- ---- the items that aren't placed
 

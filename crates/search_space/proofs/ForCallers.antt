@@ -20,7 +20,7 @@ use Rattle.search_space.proofs.StraightVerdict.{verdict-best, verdict-none, verd
 -- a problem on the graph of instructions of a set, and a straight one
 pub use Rattle.search_space.proofs.FromGraph.{searchable-graph, searchable-straight}
 -- how many choices legal lists have
-pub use Rattle.search_space.proofs.Counts.{length-order, made-count, made-few, full-length, length-full}
+pub use Rattle.search_space.proofs.Counts.{length-standing, length-order, made-count, made-few, full-length, length-full}
 -- a choice is reduced where it passes the test, and only there
 pub use Rattle.search_space.proofs.Reduced.{reduced-test, reduced-from}
 -- the choices that may come next, one after the other: the first behind another, and those behind that
@@ -28,14 +28,24 @@ pub use Rattle.search_space.proofs.Behind.{IsNextBehind, next_behind-some, next_
 -- the same item by item, unit by unit and output by output, without the registers that needn't be tried
 pub use Rattle.search_space.proofs.Walk.{none-first, none-more, some-first, next_behind-items, placed-none, choices_of-units, beginning-last, beginning-more, padded-more, last-found, more-found}
 pub use Rattle.search_space.proofs.Trials.{hopeless-never, hopeless-found}
+-- nothing is found where no choice passes; and lists of registers have their length
+pub use Rattle.search_space.proofs.Lists.{fails-behind, find-never}
+pub use Rattle.search_space.proofs.RegLists.{length-regs}
+-- what a legal choice is of: an item of the problem, on one of few units
+pub use Rattle.search_space.proofs.Outputs.{known-item}
+pub use Rattle.search_space.proofs.Next.{legal-unit}
+-- a list of choices turned round: whether it is full, and one more choice
+pub use Rattle.search_space.proofs.Going.{reverse-full, reverse-more}
+-- the entries of a tree: each that belongs to it, in ascending order
+pub use Rattle.search_space.proofs.Trees.{has-entry, ordered-entries}
 -- choices made so far, and the full lists that go on from them
 pub use Rattle.search_space.proofs.Full.{made-from, made-list, full-next, full_from-full, full_from-more, full_from-none}
 -- the first of the fewest stalls
 pub use Rattle.search_space.proofs.Best.{IsFirst, first_fewest-some, first_fewest-none, member-from, has-member, best-from, best-some, best-none, best-full, none-full}
 -- the bound: it never falls, and no full schedule has fewer stalls than the bound of a list that it begins with
 pub use Rattle.search_space.proofs.BoundLaws.{timed-is, bound-legal, bound-along, bound-schedule, bound-never-falls, bound-below-stalls}
--- heights, told by those of the readers
-pub use Rattle.search_space.proofs.Heights.{height-is}
+-- heights, told by those of the readers, which stand below
+pub use Rattle.search_space.proofs.Heights.{height-is, height-below}
 -- the entries that go on from choices made so far
 pub use Rattle.search_space.proofs.Entries.{entries-past, entries-last, entries-more}
 -- outcomes of lists, of one more entry and of lists that are joined

@@ -4,7 +4,7 @@ use Rattle.std.proofs.lemmas.Option.{slice_get-map, get_or_from_slice_get}
 use Rattle.sl_model.specs.declared.instruction.Instr.{Instr}
 use Rattle.sl_model.specs.declared.instruction.FormInfo.{FormInfo}
 use Rattle.sl_model.specs.declared.schedule.Source.{Source}
-use Rattle.sl_model.specs.declared.register.Reg.{Reg}
+use Rattle.sl_model.specs.declared.frame.Frame.{Frame}
 use Rattle.sl_model.specs.Source.{operands, outputs, item_at, no_instr}
 use Rattle.sl_model.specs.RegSets.{set_count}
 use Rattle.sl_model.specs.Isa.{Isa}
@@ -52,7 +52,7 @@ module _ (isa : Isa) (items : List Instr) (order : List ℕ) (sources : List (Li
       })
 
 -- So a straight problem can be searched.
-pub searchable-straight : (isa : Isa) (items : List Instr) (live free : List Reg) (costs : CostTable) → AreValid isa items
-    → 1 ≤ costs.width → ((p : ℕ) → p < length items → (row_of costs p).units < 2 ^ unit_room) → IsSearchable (straight_problem isa items live free costs)
-searchable-straight isa items live free costs valid width units =
-    searchable-graph isa items (list_graph isa items).order (list_graph isa items).sources (straight_problem isa items live free costs) refl valid (list-are_sources isa items) width units
+pub searchable-straight : (isa : Isa) (items : List Instr) (frame : Frame) (costs : CostTable) → AreValid isa items
+    → 1 ≤ costs.width → ((p : ℕ) → p < length items → (row_of costs p).units < 2 ^ unit_room) → IsSearchable (straight_problem isa items frame costs)
+searchable-straight isa items frame costs valid width units =
+    searchable-graph isa items (list_graph isa items).order (list_graph isa items).sources (straight_problem isa items frame costs) refl valid (list-are_sources isa items) width units

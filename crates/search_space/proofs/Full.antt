@@ -7,11 +7,11 @@ use Rattle.sl_model.specs.declared.schedule.Choice.{Choice}
 use Rattle.sl_model.specs.Body.{is_full}
 use Rattle.sl_model.specs.Legal.{Problem, IsLegalFrom, IsFullLegal}
 use Rattle.sl_model.specs.Space.{IsReducedFrom}
-use Rattle.sl_laws.proofs.Members.{Has, Ordered, has-filter, from-filter, ordered-filter}
+use Rattle.sl_laws.proofs.Members.{Has, Ordered, has-filter, from-filter, ordered-filter, passes-filter}
 use Rattle.search_space.specs.Searchable.{IsSearchable, AreMade}
 use Rattle.search_space.specs.Next.{next_choices}
 use Rattle.search_space.specs.Going.{going_on, full_from, full_lists}
-use Rattle.search_space.proofs.Lists.{passes-filter, filter-flat_map, empty-from}
+use Rattle.search_space.proofs.Lists.{filter-flat_map, empty-from}
 use Rattle.search_space.proofs.Keys.{Comes}
 use Rattle.search_space.proofs.Next.{has-next, from-next, ordered-next}
 use Rattle.search_space.proofs.Counts.{made-few, full-length}

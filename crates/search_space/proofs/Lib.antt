@@ -1,6 +1,6 @@
 pub mod Lists
 pub mod Keys
-pub mod MachineRegs
+pub mod RegLists
 pub mod Choices
 pub mod Outputs
 pub mod Reduced

@@ -2,7 +2,7 @@
 use Rattle.std.proofs.Common.{◌≡◌, ℕ, zero, suc, ◌+◌, ◌⊎◌, Bool, true, false, ◌&&◌, cond, List, [], ◌∷◌, ◌++◌, filter, slice_get, Some, None, inl, inr, ⊎_elim, refl, sym, ap, ◌∙◌, subst, true≢false, arith}
 use Rattle.std.specs.List.{list_any, flat_map, find, enumerate_from}
 use Rattle.std.proofs.lemmas.List.Elements.{filter-append}
-use Rattle.std.proofs.lemmas.Bool.{cases_Bool, or_cases, or_left, or_right, cond-true, cond-false}
+use Rattle.std.proofs.lemmas.Bool.{or_cases, or_left, or_right, cond-true, cond-false}
 use Rattle.sl_laws.proofs.Members.{Has, Ordered}
 
 -- a test that is joined with one that fails
@@ -26,18 +26,6 @@ module _ {X : Type 0} where
       (λ (here : y ≡ x). or_left (p y) (list_any p xs) (ap p here ∙ ok))
       (λ (there : Has x xs). or_right (p y) (list_any p xs) (has-any p x xs there ok))
       h
-
-  -- what a filter leaves passes the test
-  pub passes-filter : (p : X → Bool) (x : X) (xs : List X) → Has x (filter p xs) → p x ≡ true
-  passes-filter p x [] h = absurd h
-  passes-filter p x (y ∷ xs) h = ⊎_elim
-      (λ (pass : p y ≡ true).
-      ⊎_elim
-      (λ (here : y ≡ x). subst (λ z. p z ≡ true) here pass)
-      (λ (there : Has x (filter p xs)). passes-filter p x xs there)
-      (subst (λ b. Has x (cond b (y ∷ filter p xs) (filter p xs))) pass h))
-      (λ (fail : p y ≡ false). passes-filter p x xs (subst (λ b. Has x (cond b (y ∷ filter p xs) (filter p xs))) fail h))
-      (cases_Bool (p y))
 
   -- a filter that none passes leaves none
   pub filter-none : (p : X → Bool) (xs : List X) → ((x : X) → Has x xs → p x ≡ false) → filter p xs ≡ []

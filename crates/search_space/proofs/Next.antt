@@ -13,12 +13,12 @@ use Rattle.sl_model.specs.Space.{IsReducedNext}
 use Rattle.sl_laws.proofs.Tests.{is_none_from}
 use Rattle.sl_laws.proofs.Rules.{keeps_rules}
 use Rattle.sl_laws.proofs.Padded.{padded-back}
-use Rattle.sl_laws.proofs.Members.{Has, Ordered, has-filter, from-filter, ordered-filter}
+use Rattle.sl_laws.proofs.Members.{Has, Ordered, has-filter, from-filter, ordered-filter, passes-filter}
 use Rattle.search_space.specs.Searchable.{output_room, unit_room, output_count, IsSearchable}
 use Rattle.search_space.specs.Next.{reg_lists, every_choice, is_reduced, may_come, next_choices}
-use Rattle.search_space.proofs.Lists.{passes-filter}
 use Rattle.search_space.proofs.Keys.{Before}
-use Rattle.search_space.proofs.MachineRegs.{has-machine, has-regs, length-regs}
+use Rattle.sl_laws.proofs.MachineRegs.{has-machine}
+use Rattle.search_space.proofs.RegLists.{has-regs, length-regs}
 use Rattle.search_space.proofs.Choices.{listed-is, is-listed, ordered-every}
 use Rattle.search_space.proofs.Outputs.{known-item, chosen-allowed}
 use Rattle.search_space.proofs.Reduced.{reduced-test, reduced-from}
@@ -45,7 +45,7 @@ module _ (problem : Problem) (search : IsSearchable problem) where
       }
 
   -- the unit of a legal choice is one of the core
-  legal-unit : (done : List Choice) (c : Choice) → IsLegalNext problem done c → c.unit < unit_room
+  pub legal-unit : (done : List Choice) (c : Choice) → IsLegalNext problem done c → c.unit < unit_room
   legal-unit done c legal = ⊎_elim
       (λ (less : c.unit < unit_room). less)
       (λ (past : unit_room ≤ c.unit).

@@ -10,7 +10,7 @@ use Rattle.sl_laws.proofs.Members.{Has, has-all, passes}
 use Rattle.search_space.specs.Searchable.{IsSearchable}
 use Rattle.search_space.specs.Next.{machine_regs, could_go_lower, is_reduced}
 use Rattle.search_space.proofs.Lists.{any-has, has-any, listed-at, at-listed}
-use Rattle.search_space.proofs.MachineRegs.{bit, has-machine}
+use Rattle.sl_laws.proofs.MachineRegs.{bit, has-machine}
 use Rattle.search_space.proofs.Outputs.{could-allowed}
 
 module _ (problem : Problem) (done : List Choice) (c : Choice) where

@@ -5,12 +5,11 @@ use Rattle.std.proofs.lemmas.Bool.{leb-true, le-leb}
 use Rattle.sl_model.specs.declared.schedule.Choice.{Choice}
 use Rattle.sl_model.specs.Legal.{IsLegalFrom}
 use Rattle.sl_model.specs.Space.{IsReducedFrom}
-use Rattle.sl_laws.proofs.Members.{Has, Ordered, has-filter, from-filter, ordered-filter}
+use Rattle.sl_laws.proofs.Members.{Has, Ordered, has-filter, from-filter, ordered-filter, passes-filter}
 use Rattle.search_space.specs.Next.{next_choices}
 use Rattle.search_space.specs.Going.{going_on}
 use Rattle.search_space.specs.Bound.{bound}
 use Rattle.search_space.specs.Levels.{Tree, IsTree, begun, is_within, entries_from, entries}
-use Rattle.search_space.proofs.Lists.{passes-filter}
 use Rattle.search_space.proofs.Keys.{Comes}
 use Rattle.search_space.proofs.Next.{ordered-next}
 use Rattle.search_space.proofs.Counts.{made-few}

@@ -18,12 +18,13 @@ use Rattle.sl_laws.proofs.Tests.{is_none_from}
 use Rattle.sl_laws.proofs.Rules.{KeepsRules, keeps_rules}
 use Rattle.sl_laws.proofs.Registers.{same_reg-true}
 use Rattle.sl_laws.proofs.Padded.{padded-back}
-use Rattle.sl_laws.proofs.Members.{Has, passes, from-map}
+use Rattle.sl_laws.proofs.Members.{Has, passes, from-map, place-has}
 use Rattle.search_space.specs.Searchable.{IsSearchable}
 use Rattle.search_space.specs.Next.{machine_reg, machine_regs, reg_lists, choice_in, is_reduced, may_come, may_follow, is_behind}
 use Rattle.search_space.specs.Trials.{beginning, class_at, own_at, may_go, is_read_from, has_lower, is_free_at, is_hopeless}
 use Rattle.search_space.proofs.Lists.{fails-behind, any-has, has-any, listed-at, find-never}
-use Rattle.search_space.proofs.MachineRegs.{bit, length-regs}
+use Rattle.sl_laws.proofs.MachineRegs.{bit}
+use Rattle.search_space.proofs.RegLists.{length-regs}
 use Rattle.search_space.proofs.Outputs.{known-item}
 use Rattle.search_space.proofs.Reduced.{reduced-from}
 
@@ -80,11 +81,6 @@ at-front [] n r rest less at = absurd (omega arith)
 at-front (x ∷ front) zero r rest less at = inl (cc)
 at-front (x ∷ front) (suc n) r rest less at = inr (at-front front n r rest (omega arith) at)
 
-at-has : (n : ℕ) (r : Reg) (regs : List Reg) → slice_get regs n ≡ Some r → Has r regs
-at-has n r [] at = absurd (cc)
-at-has zero r (x ∷ regs) at = inl (cc)
-at-has (suc n) r (x ∷ regs) at = inr (at-has n r regs at)
-
 -- the tie of an output at a place
 at-tied : (p : Reg × Option ℕ → Bool) (n : ℕ) (r : Reg) (operand : ℕ) (regs : List Reg) (tied : List (Option ℕ)) → slice_get regs n ≡ Some r → slice_get tied n ≡ Some (Some operand)
     → list_all p (zip regs tied) ≡ true → p (r, Some operand) ≡ true
@@ -126,7 +122,7 @@ module _ (problem : Problem) (search : IsSearchable problem) (done : List Choice
   went n r at =
       let sum : 0 + n ≡ n = omega arith in
       and_from _ _ (subst (λ m. suits_output problem c.item (m, ((r, class_at problem c.item n), own_at problem c.item n)) ≡ true) sum (suits-at n r at))
-      (passes (may_overwrite problem done c.item) r (chosen c) (at-has n r (chosen c) at) keeps.l7)
+      (passes (may_overwrite problem done c.item) r (chosen c) (place-has r (chosen c) n at) keeps.l7)
 
   -- an output that isn't free to choose is in a final register, in one that the item reads, or in the flags
   not-free : (n : ℕ) (r : Reg) → slice_get (chosen c) n ≡ Some r → is_free_output problem c (n, r) ≡ false

@@ -1,33 +1,22 @@
 -- The choices that may come next, in their order. Source: the rules on one choice after another, as
 -- a test of each choice that there is.
-use Rattle.std.specs.Prelude.{ℕ, Bool, true, false, zero, suc, ◌&&◌, ◌||◌, not, nat_lt, map, filter, is_some, List, [], ◌∷◌, ◌++◌, length, Option, None, Some}
+use Rattle.std.specs.Prelude.{ℕ, Bool, true, zero, suc, ◌&&◌, ◌||◌, not, nat_lt, map, filter, is_some, List, [], ◌∷◌, length, Option, None, Some}
 use Rattle.std.specs.List.{list_all, list_any, flat_map, find}
 use Rattle.std.specs.Ordering.{nat_cmp, is_lt}
 use Rattle.std.specs.Cmp.Lexicographic.{slice_cmp}
-use Rattle.sl_model.specs.declared.register.Bank.{Bank}
-use Rattle.sl_model.specs.declared.register.Bank.TheVariants.{General, Vector, Flags, Stack}
 use Rattle.sl_model.specs.declared.register.Reg.{Reg}
 use Rattle.sl_model.specs.declared.schedule.Choice.{Choice}
-use Rattle.sl_model.specs.RegSets.{bit_of, bank_size}
+use Rattle.sl_model.specs.RegSets.{bit_of}
 use Rattle.sl_model.specs.Source.{numbers_below, padded}
 use Rattle.sl_model.specs.Body.{stands_in}
 use Rattle.sl_model.specs.Legal.{Problem, first_broken}
 use Rattle.sl_model.specs.Space.{choice_key, same_kind, is_free_output, could_take, is_taken, placed_outputs}
 use Rattle.search_space.specs.Searchable.{output_room, unit_room, output_count}
+pub use Rattle.sl_model.specs.RegSets.{machine_reg, bank_regs}
+-- the registers of the machine, which are tried in this order
+unfoldable pub use Rattle.sl_model.specs.RegSets.{machine_regs}
 
 -- ---- every choice
-
--- a register of the machine
-abbrev pub machine_reg : Bank → ℕ → Reg
-machine_reg bank number = record { bank = bank; symbolic = false; number = number }
-
--- the registers of a bank, ascending
-abbrev pub bank_regs : Bank → List Reg
-bank_regs bank = map (machine_reg bank) (numbers_below (bank_size bank))
-
--- the registers of the machine, by their bits in a set
-unfoldable pub machine_regs : List Reg
-machine_regs = bank_regs General ++ (bank_regs Vector ++ (bank_regs Flags ++ bank_regs Stack))
 
 -- the lists of so many registers, in their order
 unfoldable pub reg_lists : ℕ → List (List Reg)

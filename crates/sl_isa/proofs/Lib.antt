@@ -1,1 +1,5 @@
+mod BankRegs
 mod Naming
+mod Pairs
+mod Reading
+pub mod ForCallers

@@ -1,5 +1,5 @@
 //! Architectures: their tables of forms, and what their instructions do.
-ghost use Rattle.std.specs.Prelude.{◌≡◌, ◌<◌, ◌++◌, true, length, map, OnOk, OnErr};
+ghost use Rattle.std.specs.Prelude.{◌≡◌, ◌<◌, ◌≤◌, ◌+◌, ◌++◌, true, length, map, OnOk, OnErr};
 ghost use Rattle.sl_text.specs.Tokens.{token_value};
 ghost use Rattle.sl_model.specs.Answers.{Gives};
 ghost use Rattle.sl_model.specs.Isa.{op_of};
@@ -7,9 +7,10 @@ ghost use Rattle.sl_model.specs.Machine.{can_count};
 ghost use Rattle.sl_model.specs.Lawful.{IsValid, load_size};
 ghost use Rattle.sl_isa.specs.Arch.{comments_of, padded_values, access_of, stored_by, AreOperands, reason_of};
 ghost use Rattle.sl_isa.specs.Steps.{IsStep};
-ghost use Rattle.sl_isa.specs.Language.{Language, IsLanguage};
+ghost use Rattle.sl_isa.specs.SymbolViews.{pairs};
+ghost use Rattle.sl_isa.specs.Language.{Language, IsLanguage, IsNamed, pairs_behind, read_behind};
 
-use crate::{Access, ArchName, FormErr, FormInfo, Instr, Outs, Reg};
+use crate::{Access, ArchName, FormErr, FormInfo, Instr, Outs, Reg, Symbols};
 use sl_base::NoMemory;
 use sl_text::{Comments, Token};
 use std::alloc::Global;
@@ -55,15 +56,37 @@ pub trait Arch {
         ensures { result ≡ language.isa.offset (op_of instr.now) };
 
     /// The instruction that the tokens of a line spell, without line and tag, and
-    /// neither early nor late; the tokens hold no comments. Where they spell none, the
-    /// answer is the first reason for it.
-    fn read_form(&self, alloc: Global, tokens: &[Token<'_>]) -> Result<Instr, FormErr>
-        ensures { Gives reason_of (λ i. i) result (language.reads (map token_value tokens.now)) };
+    /// neither early nor late; the tokens hold no comments. Its symbolic registers have the numbers
+    /// of their names, and names that `symbols` hasn't yet are added. Where the tokens spell no
+    /// instruction, the answer is the first reason for it, and `symbols` is as it was; so it is
+    /// after `NoMemory`.
+    fn read_form(
+        &self,
+        alloc: Global,
+        tokens: &[Token<'_>],
+        symbols: &mut Symbols,
+    ) -> Result<Instr, FormErr>
+        requires { length (pairs symbols.old) ≤ 65529 }
+        ensures answer { Gives reason_of (λ i. i) result
+            (read_behind language (pairs symbols.old) (map token_value tokens.now)) }
+        ensures ok { OnOk result
+            (pairs symbols.new
+            ≡ pairs_behind language (pairs symbols.old) (map token_value tokens.now)) }
+        ensures err { OnErr result (pairs symbols.new ≡ pairs symbols.old) }
+        ensures count { length (pairs symbols.new) ≤ length (pairs symbols.old) + 7 };
 
-    /// Adds an instruction's one printed spelling to `out`. After `NoMemory` nothing has changed.
-    fn print_form(&self, instr: &Instr, out: &mut Vec<u8>) -> Result<(), NoMemory>
-        requires { IsValid language.isa instr.now }
-        ensures ok { OnOk result (out.new.items ≡ out.old.items ++ language.printed instr.now) }
+    /// Adds an instruction's one printed spelling to `out`, with the names of its symbolic
+    /// registers. After `NoMemory` nothing has changed.
+    fn print_form(
+        &self,
+        instr: &Instr,
+        symbols: &Symbols,
+        out: &mut Vec<u8>,
+    ) -> Result<(), NoMemory>
+        requires valid { IsValid language.isa instr.now }
+        requires named { IsNamed (pairs symbols.now) instr.now }
+        ensures ok { OnOk result
+            (out.new.items ≡ out.old.items ++ language.printed (pairs symbols.now) instr.now) }
         ensures err { OnErr result (out.new.items ≡ out.old.items) };
 
     /// The access of an instruction whose operands have the values `ins`: None

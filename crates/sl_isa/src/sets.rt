@@ -1,8 +1,12 @@
 //! Sets of registers.
-ghost use Rattle.std.specs.Prelude.{◌≡◌, ℕ, ◌<◌};
-ghost use Rattle.sl_model.specs.RegSets.{bit_of, bank_size, with_reg, set_of, set_has};
+ghost use Rattle.std.specs.Prelude.{◌≡◌, ℕ, ◌<◌, ◌++◌, filter, IfOk, OnOk};
+ghost use Rattle.sl_model.specs.RegSets.{bit_of, bank_size, with_reg, set_of, set_has, set_union, bank_regs, regs_in};
+ghost use Rattle.sl_model.specs.Lawful.{bank_bits, suits_set};
 
+use crate::names::register_in;
+use sl_base::NoMemory;
 use sl_model::register::{Bank, Reg, RegSet};
+use std::alloc::{AllocError, Global};
 
 /// The set of those registers that are of the machine: not symbolic, and
 /// with a number that their bank has.
@@ -68,4 +72,64 @@ pub fn set_has(set: RegSet, reg: Reg) -> bool
         return false;
     }
     (set.bits >> bit_of(reg.bank, reg.number)) % 2 == 1
+}
+
+/// The registers of either of two sets.
+pub fn set_union(a: RegSet, b: RegSet) -> RegSet
+    ensures { result ≡ set_union a b }
+{
+    RegSet {
+        bits: a.bits | b.bits,
+    }
+}
+
+/// The registers of a set, by their bits: general ones, vector ones, the flags and the stack
+/// pointer. The only error is want of memory.
+pub fn regs_in(alloc: Global, set: RegSet) -> Result<Vec<Reg>, NoMemory>
+    ensures { IfOk result (λ regs. regs.items ≡ regs_in set) }
+{
+    let mut regs = Vec::new(alloc);
+    push_bank(&mut regs, set, Bank::General)?;
+    push_bank(&mut regs, set, Bank::Vector)?;
+    push_bank(&mut regs, set, Bank::Flags)?;
+    push_bank(&mut regs, set, Bank::Stack)?;
+    Ok(regs)
+}
+
+/// Puts the registers of a bank that a set has behind others, ascending.
+fn push_bank(regs: &mut Vec<Reg>, set: RegSet, bank: Bank) -> Result<(), NoMemory>
+    ensures { OnOk result
+        (regs.new.items ≡ regs.old.items ++ filter (set_has set) (bank_regs bank)) }
+{
+    for number in 0..bank_size(bank) {
+        let reg = register_in(bank, number);
+        if !set_has(set, reg) {
+            continue;
+        }
+        regs.push(reg).map_err(AllocError::from)?;
+    }
+    Ok(())
+}
+
+// The bits of a set that are those of a bank.
+fn bank_bits(bank: Bank, set: RegSet) -> u128
+    ensures { result ≡ bank_bits bank set }
+{
+    match bank {
+        Bank::General => set.bits % (1 << 32),
+        Bank::Vector => (set.bits >> 32) % (1 << 32),
+        Bank::Flags => (set.bits >> 64) % 2,
+        Bank::Stack => (set.bits >> 65) % 2,
+    }
+}
+
+/// May a register stand where a form takes those of a set? A symbolic register may where
+/// one of its bank may.
+pub fn suits_set(reg: Reg, set: RegSet) -> bool
+    ensures { result ≡ suits_set (reg, set) }
+{
+    if reg.symbolic {
+        return bank_bits(reg.bank, set) > 0;
+    }
+    set_has(set, reg)
 }

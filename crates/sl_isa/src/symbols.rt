@@ -1,5 +1,5 @@
 //! The names of symbolic registers.
-ghost use Rattle.std.specs.Prelude.{◌≡◌, ◌<◌, ◌≤◌, ◌+◌, ⊤, true, false, [], map, length, slice_get, OnOk, OnErr, IfOk, MatchOption, None, Some};
+ghost use Rattle.std.specs.Prelude.{◌≡◌, ◌<◌, ◌≤◌, ◌+◌, ⊤, true, false, [], map, length, take, slice_get, OnOk, OnErr, IfOk, MatchOption, None, Some};
 ghost use Rattle.sl_isa.specs.Symbols as spec;
 ghost use Rattle.sl_isa.specs.SymbolViews.{pair_of, pairs};
 
@@ -71,6 +71,7 @@ impl Symbols {
         ensures ok { OnOk result (pairs self.new ≡ spec.with_pair bank name.now (pairs self.old)) }
         ensures err { OnErr result (pairs self.new ≡ pairs self.old) }
         ensures count { length (pairs self.new) ≤ length (pairs self.old) + 1 }
+        ensures front { take (length (pairs self.old)) (pairs self.new) ≡ pairs self.old }
     {
         if let Some(place) = place_from(0, bank, name, &self.list) {
             return Ok(place as u16);
@@ -83,6 +84,31 @@ impl Symbols {
             return Err(NoMemory);
         }
         Ok(place)
+    }
+
+    /// The number of a pair of bank and name that was numbered before.
+    pub fn known(&self, bank: Bank, name: &str) -> Option<u16>
+        requires { length (pairs self.now) ≤ 65536 }
+        ensures { MatchOption result (spec.has_pair bank name.now (pairs self.now) ≡ false)
+            (λ n. (spec.has_pair bank name.now (pairs self.now) ≡ true)
+            × (n ≡ spec.number_of bank name.now (pairs self.now))) }
+    {
+        let place = place_from(0, bank, name, &self.list)?;
+        Some(place as u16)
+    }
+
+    /// How many pairs were numbered.
+    pub fn count(&self) -> usize
+        ensures { result ≡ length (pairs self.now) }
+    {
+        self.list.len()
+    }
+
+    /// Leaves the first `count` pairs alone, and forgets those behind them.
+    pub fn truncate(&mut self, count: usize)
+        ensures { pairs self.new ≡ take count (pairs self.old) }
+    {
+        self.list.truncate(count);
     }
 
     /// The name with a number.

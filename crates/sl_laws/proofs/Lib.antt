@@ -4,11 +4,13 @@ pub mod Members
 pub mod Registers
 pub mod Padded
 pub mod RegSets
+pub mod MachineRegs
 pub mod Sources
 pub mod Orders
 pub mod Numbers
 pub mod Graphs
 pub mod Valid
+pub mod Alone
 pub mod State
 pub mod Rules
 pub mod Cycles

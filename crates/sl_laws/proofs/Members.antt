@@ -1,7 +1,7 @@
 -- Elements of lists, and lists in which each element stands in a relation to those behind it.
-use Rattle.std.proofs.Common.{◌≡◌, ℕ, zero, suc, ◌<◌, ◌≤◌, ◌⊎◌, Bool, true, false, cond, List, [], ◌∷◌, ◌++◌, map, filter, inl, inr, ⊎_elim, refl, sym, ap, ◌∙◌, subst, arith}
+use Rattle.std.proofs.Common.{◌≡◌, ℕ, zero, suc, ◌<◌, ◌≤◌, ◌⊎◌, Bool, true, false, cond, List, [], ◌∷◌, ◌++◌, map, filter, slice_get, Some, inl, inr, ⊎_elim, refl, sym, ap, ◌∙◌, subst, arith}
 use Rattle.std.specs.List.{list_all, flat_map}
-use Rattle.std.proofs.lemmas.Bool.{and_parts, and_from, cases_lt, cond-true}
+use Rattle.std.proofs.lemmas.Bool.{cases_Bool, and_parts, and_from, cases_lt, cond-true}
 use Rattle.sl_model.specs.Source.{numbers_below}
 
 -- an element is one of a list
@@ -29,6 +29,20 @@ module _ {X : Type 0} where
       (λ (here : y ≡ x). inl (inl here))
       (λ (there : Has x (xs ++ ys)). ⊎_elim (λ (left : Has x xs). inl (inr left)) (λ (right : Has x ys). inr right) (has-cases x xs ys there))
       h
+
+  -- an element stands at a place
+  pub has-place : (x : X) (xs : List X) → Has x xs → (k : ℕ) × (slice_get xs k ≡ Some x)
+  has-place x [] h = absurd h
+  has-place x (y ∷ xs) h = ⊎_elim
+      (λ (here : y ≡ x). (0, ap Some here))
+      (λ (there : Has x xs). let r = has-place x xs there in (suc r.0, r.1))
+      h
+
+  -- and what stands at a place is one
+  pub place-has : (x : X) (xs : List X) (k : ℕ) → slice_get xs k ≡ Some x → Has x xs
+  place-has x [] k at = absurd (cc)
+  place-has x (y ∷ xs) zero at = inl (cc)
+  place-has x (y ∷ xs) (suc k) at = inr (place-has x xs k at)
 
   -- a test that all pass is passed by each
   pub passes : (p : X → Bool) (x : X) (xs : List X) → Has x xs → list_all p xs ≡ true → p x ≡ true
@@ -70,6 +84,18 @@ module _ {X : Type 0} where
       by : (b : Bool) (y : X) (ys : List X) → Has x (cond b (y ∷ ys) ys) → (y ≡ x) ⊎ Has x ys
       by true y ys h = h
       by false y ys h = inr h
+
+  -- what a filter leaves passes the test
+  pub passes-filter : (p : X → Bool) (x : X) (xs : List X) → Has x (filter p xs) → p x ≡ true
+  passes-filter p x [] h = absurd h
+  passes-filter p x (y ∷ xs) h = ⊎_elim
+      (λ (pass : p y ≡ true).
+      ⊎_elim
+      (λ (here : y ≡ x). subst (λ z. p z ≡ true) here pass)
+      (λ (there : Has x (filter p xs)). passes-filter p x xs there)
+      (subst (λ b. Has x (cond b (y ∷ filter p xs) (filter p xs))) pass h))
+      (λ (fail : p y ≡ false). passes-filter p x xs (subst (λ b. Has x (cond b (y ∷ filter p xs) (filter p xs))) fail h))
+      (cases_Bool (p y))
 
   pub ordered-filter : (R : X → X → Type 0) (p : X → Bool) (xs : List X) → Ordered R xs → Ordered R (filter p xs)
   ordered-filter R p [] ordered = tt

@@ -30,6 +30,7 @@ valid-on_line isa i line valid = record {
   output_classes = valid.output_classes;
   distinct = valid.distinct;
   tied = valid.tied;
+  base_apart = valid.base_apart;
 }
 
 -- And whatever its tag and its marks.
@@ -44,6 +45,7 @@ valid-marked isa i tag early late valid = record {
   output_classes = valid.output_classes;
   distinct = valid.distinct;
   tied = valid.tied;
+  base_apart = valid.base_apart;
 }
 
 -- what holds of all items holds of those behind the first

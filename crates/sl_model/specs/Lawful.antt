@@ -1,12 +1,13 @@
 -- Which instructions an instruction set has, and what is asked of it. Source: DDI 0487 and DDI
 -- 0403, the operands that an encoding allows, and the widths of registers and addresses.
-use Rattle.std.specs.Prelude.{ℕ, Bool, true, false, pos, ◌/◌, ◌%◌, ◌^◌, nat_lt, ◌<◌, ◌≤◌, ◌≡◌, ◌≤ℤ◌, ◌+ℤ◌, List, length, slice_get, Option, None, Some, if◌then◌else◌}
+use Rattle.std.specs.Prelude.{ℕ, Bool, true, false, pos, ◌/◌, ◌%◌, ◌^◌, ◌==◌, nat_lt, ◌<◌, ◌≤◌, ◌≡◌, ◌≤ℤ◌, ◌+ℤ◌, List, length, filter, slice_get, Option, None, Some, is_some, option_and_then, if◌then◌else◌}
 use Rattle.std.specs.List.{list_all, list_any, zip}
 use Rattle.sl_model.specs.declared.register.Bank.{Bank}
 use Rattle.sl_model.specs.declared.register.Bank.TheVariants.{General, Vector, Flags, Stack}
 use Rattle.sl_model.specs.declared.register.Reg.{Reg}
 use Rattle.sl_model.specs.declared.register.RegSet.{RegSet}
 use Rattle.sl_model.specs.declared.instruction.Instr.{Instr}
+use Rattle.sl_model.specs.declared.instruction.FormInfo.{FormInfo}
 use Rattle.sl_model.specs.Register.{same_reg}
 use Rattle.sl_model.specs.RegSets.{set_has, set_count}
 use Rattle.sl_model.specs.Source.{operands, outputs, padded, item_at}
@@ -49,9 +50,24 @@ abbrev pub is_tied_to : List Reg → Reg × Option ℕ → Bool
 is_tied_to ins (r, None) = true
 is_tied_to ins (r, Some operand) = is_reg_at ins operand r
 
+-- Is an element of a list, if there is one, like no other of them?
+abbrev pub is_alone : {X : Type 0} → (X → X → Bool) → List X → Option X → Bool
+is_alone same xs None = true
+is_alone same xs (Some x) = length (filter (same x) xs) == 1
+
+-- Is a base that a form writes back like no other operand, where the operands are these?
+abbrev pub is_base_alone : {X : Type 0} → (X → X → Bool) → FormInfo → List X → Bool
+is_base_alone same info xs =
+    if is_some info.back then is_alone same xs (option_and_then (slice_get xs) info.base) else true
+
+-- Does an access that writes its base back have its base in a register of its own? The data that
+-- it loads are outputs, which differ from the new base anyway.
+abbrev pub is_base_apart : FormInfo → Instr → Bool
+is_base_apart info i = is_base_alone same_reg info (operands i)
+
 -- An instruction of an instruction set: there is its form with its numbers; it has a register
--- for each operand and each output, of their classes; its outputs differ; and tied outputs are
--- in the registers of their operands.
+-- for each operand and each output, of their classes; its outputs differ; tied outputs are
+-- in the registers of their operands; and a base that is written back is in no data's.
 pub record IsValid (isa : Isa) (i : Instr) : Type 0 where
   pub op : isa.valid (op_of i) ≡ true
   pub ins_shape : i.ins ≡ padded 4 (operands i)
@@ -62,6 +78,7 @@ pub record IsValid (isa : Isa) (i : Instr) : Type 0 where
   pub output_classes : list_all suits_set (zip (outputs i) (isa.info i.form).out_sets) ≡ true
   pub distinct : all_differ (outputs i) ≡ true
   pub tied : list_all (is_tied_to (operands i)) (zip (outputs i) (isa.info i.form).tied) ≡ true
+  pub base_apart : is_base_apart (isa.info i.form) i ≡ true
 
 -- All instructions of a list are ones of the set.
 abbrev pub AreValid : Isa → List Instr → Type 0

@@ -1,10 +1,11 @@
 -- Legal schedules. Source: the constraints of SLOTHY (TCHES 2024), as
 -- rules on one choice after another.
-use Rattle.std.specs.Prelude.{ℕ, Bool, true, false, ◌≡◌, ◌==◌, ◌&&◌, ◌||◌, not, map, filter, length, List, [], ◌∷◌, ◌++◌, slice_get, slice_index_or, Option, None, Some, if◌then◌else◌}
+use Rattle.std.specs.Prelude.{ℕ, Bool, true, false, ◌≡◌, ◌==◌, ◌&&◌, ◌||◌, not, map, filter, unwrap_or, length, List, [], ◌∷◌, slice_get, slice_index_or, Option, None, Some, if◌then◌else◌}
 use Rattle.std.specs.Int.{bit_at}
 use Rattle.std.specs.List.{list_all, list_any, zip, enumerate_from, flat_map}
 use Rattle.sl_model.specs.declared.register.Reg.{Reg}
 use Rattle.sl_model.specs.declared.register.RegSet.{RegSet}
+use Rattle.sl_model.specs.declared.frame.Frame.{Frame}
 use Rattle.sl_model.specs.declared.instruction.Instr.{Instr}
 use Rattle.sl_model.specs.declared.instruction.FormInfo.{FormInfo}
 use Rattle.sl_model.specs.declared.schedule.Choice.{Choice}
@@ -15,7 +16,7 @@ use Rattle.sl_model.specs.declared.rules.Rule.TheVariants.{L1, L2, L3, L4, L5, L
 use Rattle.sl_model.specs.Register.{same_reg, same_bool, bank_number}
 use Rattle.sl_model.specs.Source.{outputs, padded, item_at, last_source}
 use Rattle.sl_model.specs.Cycles.{CostTable, row_of}
-use Rattle.sl_model.specs.RegSets.{set_has, set_of}
+use Rattle.sl_model.specs.RegSets.{set_has, set_of, set_union, regs_in}
 use Rattle.sl_model.specs.Isa.{Isa}
 use Rattle.sl_model.specs.Body.{same_source, chosen, is_placed, held, given, is_still_held, all_differ, stands_in, is_full}
 use Rattle.sl_model.specs.Graph.{Graph, sources_at, info_at, precedes_at, list_graph}
@@ -196,13 +197,21 @@ pub record IsFullLegal (problem : Problem) (schedule : List Choice) : Type 0 whe
 abbrev pub written : List Instr → List Reg
 written items = filter (λ r. not r.symbolic) (flat_map outputs items)
 
--- The items in their own order with their own sources. The finals are the live-out registers, each
--- with its last writer; the registers that the items write, and the free ones, are allowed.
-abbrev pub straight_problem : Isa → List Instr → List Reg → List Reg → CostTable → Problem
-straight_problem isa items live free costs = record {
+-- What a list of items leaves, and what its schedules may write. The live registers are those that
+-- are given, or else all that the items write; allowed are those that they write, and free ones.
+abbrev pub frame_of : List Instr → Option RegSet → RegSet → Frame
+frame_of items live free = record {
+  live = unwrap_or live (set_of (written items));
+  allowed = set_union (set_of (written items)) free;
+}
+
+-- The items in their own order with their own sources. The finals are the live registers of the
+-- frame, each with its last writer; each item may write the registers that the frame allows.
+abbrev pub straight_problem : Isa → List Instr → Frame → CostTable → Problem
+straight_problem isa items frame costs = record {
   graph = list_graph isa items;
-  finals = map (λ r. (r, last_source items r)) live;
-  allowed = map (λ i. set_of (written items ++ free)) items;
+  finals = map (λ r. (r, last_source items r)) (regs_in frame.live);
+  allowed = map (λ i. frame.allowed) items;
   costs = costs;
   looped = false;
 }

@@ -1,9 +1,11 @@
 -- What programs mean, and when one leaves what another leaves. Source: DDI 0487 and
 -- DDI 0403; a loop counts a register down to 0 at its end.
-use Rattle.std.specs.Prelude.{ℕ, Bool, true, ◌+◌, ◌%◌, ◌<◌, ◌≡◌, ◌==◌, ◌&&◌, zero, suc, ◌⊎◌, is_some, false, List, [], ◌∷◌, ◌++◌, if◌then◌else◌}
+use Rattle.std.specs.Prelude.{ℕ, Bool, true, ◌+◌, ◌%◌, ◌<◌, ◌≡◌, ◌==◌, ◌&&◌, ◌||◌, zero, suc, ◌⊎◌, is_some, false, List, [], ◌∷◌, ◌++◌, if◌then◌else◌}
+use Rattle.sl_model.specs.declared.frame.Frame.{Frame}
 use Rattle.sl_model.specs.declared.register.Reg.{Reg}
 use Rattle.sl_model.specs.declared.instruction.Instr.{Instr}
 use Rattle.sl_model.specs.Register.{same_bool}
+use Rattle.sl_model.specs.RegSets.{set_has}
 use Rattle.sl_model.specs.State.{State, read, byte}
 use Rattle.sl_model.specs.Isa.{Isa}
 use Rattle.sl_model.specs.Exec.{Touch, run, touches}
@@ -84,19 +86,27 @@ counter_of (Loop before body counter flagged after) = counter ∷ []
 abbrev pub is_one_of : Reg → List Reg → Bool
 is_one_of r regs = is_some (place_from 0 r regs)
 
--- The new program leaves what the old one leaves from a state: the live-out registers and the
+-- Is a register live behind a program: is it one of the frame's, or the counter of a loop?
+abbrev pub is_live : Frame → Program → Reg → Bool
+is_live frame program r = set_has frame.live r || is_one_of r (counter_of program)
+
+-- May a register be changed: does the program write it, or is it live or allowed?
+abbrev pub may_change : (Bool → Reg → Instr) → Frame → Program → Reg → Bool
+may_change decrement frame program r =
+    is_one_of r (writes decrement program) || (set_has frame.live r || set_has frame.allowed r)
+
+-- The new program leaves what the old one leaves from a state: the live registers and the
 -- counter have the same values; each address reads the same byte; each register of the machine
--- that the old program doesn't write, and that is neither live-out nor free, keeps its value;
+-- that the old program doesn't write, and that is neither live nor allowed, keeps its value;
 -- and each access is made as often.
-pub record Leaves (isa : Isa) (decrement : Bool → Reg → Instr) (live free : List Reg)
+pub record Leaves (isa : Isa) (decrement : Bool → Reg → Instr) (frame : Frame)
     (old new : Program) (s : State) : Type 0 where
-  pub registers : (r : Reg) → is_one_of r (live ++ counter_of old) ≡ true
+  pub registers : (r : Reg) → is_live frame old r ≡ true
       → read (end_of isa decrement new s) r ≡ read (end_of isa decrement old s) r
   pub bytes : (address : ℕ)
       → byte (end_of isa decrement new s).memory address
       ≡ byte (end_of isa decrement old s).memory address
-  pub others : (r : Reg) → r.symbolic ≡ false
-      → is_one_of r (writes decrement old ++ (live ++ free)) ≡ false
+  pub others : (r : Reg) → r.symbolic ≡ false → may_change decrement frame old r ≡ false
       → read (end_of isa decrement new s) r ≡ read s r
   pub access_counts : (a : Touch)
       → times_of a (accesses isa decrement new s) ≡ times_of a (accesses isa decrement old s)

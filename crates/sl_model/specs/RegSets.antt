@@ -1,11 +1,13 @@
--- Sets of registers of the machine: the register classes of an instruction's operands. Source: DDI
--- 0487 (A64) and DDI 0403 (Armv7-M), the register fields of encodings.
-use Rattle.std.specs.Prelude.{ℕ, Bool, nat_lt, ◌+◌, ◌^◌, ◌==◌, ◌&&◌, not, bit_or, List, [], ◌∷◌, if◌then◌else◌}
+-- Sets of registers of the machine: the register classes of an instruction's operands, and the
+-- registers that a region leaves or may write. Source: DDI 0487 (A64) and DDI 0403 (Armv7-M), the
+-- register fields of encodings.
+use Rattle.std.specs.Prelude.{ℕ, Bool, false, nat_lt, ◌+◌, ◌^◌, ◌==◌, ◌&&◌, not, bit_or, map, filter, List, [], ◌∷◌, ◌++◌, if◌then◌else◌}
 use Rattle.std.specs.Int.{bit_at}
 use Rattle.sl_model.specs.declared.register.Bank.{Bank}
 use Rattle.sl_model.specs.declared.register.Bank.TheVariants.{General, Vector, Flags, Stack}
 use Rattle.sl_model.specs.declared.register.Reg.{Reg}
 use Rattle.sl_model.specs.declared.register.RegSet.{RegSet}
+use Rattle.sl_model.specs.Source.{numbers_below}
 
 -- the bit of a register in a set
 abbrev pub bit_of : Bank → ℕ → ℕ
@@ -48,3 +50,23 @@ set_of (r ∷ regs) = with_reg r (set_of regs)
 unfoldable pub set_count : List RegSet → ℕ
 set_count [] = 0
 set_count (set ∷ sets) = (if set.bits == 0 then 0 else 1) + set_count sets
+
+-- the registers of either of two sets
+abbrev pub set_union : RegSet → RegSet → RegSet
+set_union a b = record { bits = bit_or a.bits b.bits }
+
+-- a register of the machine
+abbrev pub machine_reg : Bank → ℕ → Reg
+machine_reg bank number = record { bank = bank; symbolic = false; number = number }
+
+-- the registers of a bank, ascending
+abbrev pub bank_regs : Bank → List Reg
+bank_regs bank = map (machine_reg bank) (numbers_below (bank_size bank))
+
+-- the registers of the machine, by their bits in a set
+unfoldable pub machine_regs : List Reg
+machine_regs = bank_regs General ++ (bank_regs Vector ++ (bank_regs Flags ++ bank_regs Stack))
+
+-- the registers of a set, by their bits: general ones, vector ones, the flags, the stack pointer
+unfoldable pub regs_in : RegSet → List Reg
+regs_in set = filter (set_has set) machine_regs

@@ -2,6 +2,7 @@
 //! in `specs/`. There is no code here.
 #![tactic(auto)]
 
+pub mod frame;
 pub mod instruction;
 pub mod limits;
 pub mod register;

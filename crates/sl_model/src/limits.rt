@@ -6,13 +6,17 @@ pub const FILE_BYTES: u64 = 1048576;
 /// The most instructions of a region.
 pub const ITEMS: usize = 64;
 
+/// The most instructions of a region that is read: each may name seven symbolic registers, and the
+/// numbers of these have 16 bits.
+pub const READ_ITEMS: usize = 8192;
+
 /// The most items of a set of items: their numbers are below it.
 pub const SET_ITEMS: usize = 192;
 
-/// The most instructions of a region whose orders are listed.
-pub const LISTED: usize = 8;
+/// The most instructions of a region that `opt` reschedules.
+pub const SEARCHED: usize = 8;
 
-/// The most stalls of a schedule that `opt` looks for.
+/// The most stalls of a schedule that `opt` looks for, where a command says nothing of them.
 pub const STALLS: u32 = 64;
 
 /// The most turns of a loop that `run` takes.

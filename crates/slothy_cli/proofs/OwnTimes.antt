@@ -12,7 +12,9 @@ use Rattle.sl_model.specs.Isa.{Isa}
 use Rattle.sl_laws.proofs.Graphs.{list_graph-sources}
 use Rattle.sl_laws.proofs.Cycles.{length-cycles_of, length-timed}
 use Rattle.sl_laws.proofs.Numbers.{length-numbers, numbers-none, map_numbers-next, all-below}
-use Rattle.slothy_cli.specs.CostText.{plain_costs, region_problem, own_choice, own_schedule, own_times}
+use Rattle.slothy_cli.specs.Command.{Aim}
+use Rattle.slothy_cli.specs.Plan.{region_problem}
+use Rattle.slothy_cli.specs.CostText.{plain_costs, own_choice, own_schedule, own_times}
 
 -- none of the items, and one more
 pub own-none : (items : List Instr) → [] ≡ map (own_choice items) (numbers_below 0)
@@ -37,11 +39,12 @@ own-units items =
     ∙ all-below (λ p. true) (length items) (λ p within. refl)
 
 -- the times of that schedule of that problem
-pub own-timed : (isa : Isa) (latency : ℕ) (items : List Instr) (problem : Problem) (schedule : List Choice) → problem ≡ region_problem isa latency items → schedule ≡ own_schedule items → timed problem.costs (sources_in problem) schedule ≡ own_times latency items
+pub own-timed : (isa : Isa) (aim : Aim) (latency : ℕ) (items : List Instr) (problem : Problem) (schedule : List Choice) → aim.latency ≡ latency → problem ≡ region_problem isa aim items → schedule ≡ own_schedule items
+    → timed problem.costs (sources_in problem) schedule ≡ own_times latency items
 unfolding own_times
-own-timed isa latency items problem schedule is are =
+own-timed isa aim latency items problem schedule same is are =
     ap (λ (p : Problem). timed p.costs (sources_in p) schedule) is
-    ∙ (λ i. timed (plain_costs latency (length items)) (λ p. list_graph-sources isa items p i) (are i))
+    ∙ (λ i. timed (plain_costs (same i) (length items)) (λ p. list_graph-sources isa items p i) (are i))
 
 -- each item has a cycle
 pub length-own_times : (latency : ℕ) (items : List Instr) → length (cycles_of (own_times latency items)) ≡ length items

@@ -1,109 +1,79 @@
--- What the words of a command ask for.
-use Rattle.std.specs.Prelude.{◌≤◌, ℕ, Bool, true, false, ◌==◌, ◌&&◌, not, nat_eq, nat_le, List, [], ◌∷◌, drop, codes, Option, None, Some, if◌then◌else◌}
-use Rattle.std.specs.List.{starts_with}
+-- What a command is asked to do. Source: this project's own command line.
+use Rattle.std.specs.Prelude.{◌≤◌, ℕ, List, [], Option, None, Some, Result, Ok, Err}
 use Rattle.std.specs.Option.{option_map}
-use Rattle.std.specs.Str.{bytes_eq}
 use Rattle.asm_reader.specs.declared.reasons.Wants.{Wants}
-use Rattle.sl_model.specs.Digits.{decimal_number}
-use Rattle.sl_model.specs.OptionSteps.{◌>>=◌}
-use Rattle.sl_model.specs.declared.limits.TheConstants.{ITEMS, LISTED, TURNS}
+use Rattle.command_words.specs.Answer.{WrongUse}
+use Rattle.command_words.specs.Command as words
+use Rattle.command_words.specs.declared.options.CoreWord.{CoreWord}
+use Rattle.command_words.specs.declared.options.CoreWord.TheVariants as cores
+use Rattle.command_words.specs.declared.options.Mode.{Mode}
+use Rattle.command_words.specs.declared.options.Mode.TheVariants as modes
+use Rattle.command_words.specs.declared.options.Options.{Options}
+use Rattle.sl_model.specs.declared.register.RegSet.{RegSet}
+use Rattle.sl_model.specs.declared.limits.TheConstants.{ITEMS, SEARCHED}
 
--- What is to be done: the costs or the best schedule on a one-wide core of a latency, or a run from
--- the state of a file, of so many turns of a loop.
+-- What `opt` is asked for: the latency of the core, the registers that live on behind the region,
+-- where they are given, those that are free, and how many stalls a schedule may have.
+pub record Aim : Type 0 where
+  pub latency : ℕ
+  pub live : Option RegSet
+  pub free : RegSet
+  pub most : ℕ
+
+-- What is to be done: the costs on the core of a latency, the best schedule, or a run from the state
+-- of a file, of at most so many turns of a loop.
 pub data Task : Type 0 where
   cost : ℕ → Task
-  opt : ℕ → Task
+  opt : Aim → Task
   emulate : List ℕ → ℕ → Task
 
--- what is to be done, and the file
+-- what is to be done, the file, and the labels at the start and at the end of its region
 pub record Command : Type 0 where
   pub task : Task
   pub name : List ℕ
+  pub start : List ℕ
+  pub end : List ℕ
 
--- a number from one to another
-abbrev pub between : ℕ → ℕ → ℕ → Option ℕ
-between least most n = if nat_le least n then (if nat_le n most then Some n else None) else None
+-- the latency of the core that is named; a core's file isn't read yet
+abbrev pub latency_in : Option CoreWord → Option ℕ
+latency_in None = None
+latency_in (Some (cores.Plain latency)) = Some latency
+latency_in (Some (cores.File name)) = None
 
--- the latency that the digits behind `one:` give, from 1 to 255
-unfoldable pub latency_from : List ℕ → Option ℕ
-latency_from digits = do
-  n ← decimal_number digits
-  between 1 255 n
+-- what `opt` is asked for on the core of a latency
+abbrev pub aim_in : Options → ℕ → Aim
+aim_in o latency = record { latency = latency; live = o.live; free = o.free; most = o.most }
 
--- the latency of the core that a word `one:L` names
-unfoldable pub latency_of : List ℕ → Option ℕ
-latency_of word =
-    if starts_with nat_eq word (codes "one:") then latency_from (drop 4 word) else None
+-- what a mode does by its options
+abbrev pub task_in : Mode → Options → Option Task
+task_in modes.Cost o = option_map cost (latency_in o.core)
+task_in modes.Opt o = option_map (λ latency. opt (aim_in o latency)) (latency_in o.core)
+task_in modes.Run o = option_map (λ state. emulate state o.turns) o.state
 
--- Is a word a file name: not empty, and no option?
-abbrev pub is_name : List ℕ → Bool
-is_name [] = false
-is_name (c ∷ name) = not (c == 45)
+-- the command of options
+abbrev pub command_in : Options → Option Command
+command_in o =
+    option_map (λ task. record { task = task; name = o.input; start = o.start; end = o.end })
+    (task_in o.mode o)
 
--- the latency that `--core one:L` gives
-abbrev pub core_of : List (List ℕ) → Option ℕ
-core_of (option ∷ core ∷ []) = if bytes_eq option (codes "--core") then latency_of core else None
-core_of words = None
+-- the command of options, where there are some
+abbrev pub command_by : Result Options WrongUse → Option Command
+command_by (Ok o) = command_in o
+command_by (Err wrong) = None
 
--- the number of turns
-unfoldable pub turns_of : List ℕ → Option ℕ
-turns_of digits = do
-  n ← decimal_number digits
-  between 0 TURNS n
-
--- the name of a state file
-abbrev pub state_of : List ℕ → Option (List ℕ)
-state_of word = if is_name word then Some word else None
-
--- a run from the state of a file, with so many turns
-abbrev pub emulation : Option (List ℕ) → Option ℕ → Option Task
-emulation state None = None
-emulation state (Some turns) = option_map (λ name. emulate name turns) state
-
--- what `--state STATE` asks for, and `--turns N` beside it, in either order
-abbrev pub run_of : List (List ℕ) → Option Task
-run_of (option ∷ value ∷ []) =
-    if bytes_eq option (codes "--state") then emulation (state_of value) (Some 1000000) else None
-run_of (first ∷ one ∷ second ∷ other ∷ []) =
-    if bytes_eq first (codes "--state") && bytes_eq second (codes "--turns") then
-    emulation (state_of one) (turns_of other)
-    else (if bytes_eq first (codes "--turns") && bytes_eq second (codes "--state") then
-    emulation (state_of other) (turns_of one)
-    else None)
-run_of words = None
-
--- what a mode asks for with its options
-abbrev pub task_of : List ℕ → List (List ℕ) → Option Task
-task_of mode options =
-    if bytes_eq mode (codes "cost") then option_map cost (core_of options)
-    else (if bytes_eq mode (codes "opt") then option_map opt (core_of options)
-    else (if bytes_eq mode (codes "run") then run_of options else None))
-
--- the command of a name and what is to be done, where both are right
-abbrev pub command_from : List ℕ → Option Task → Option Command
-command_from name task = option_map (λ what. record { task = what; name = name }) task
-
--- A mode, a name and options, behind the program's name; all other words are wrong use.
+-- What a command's words ask for; there is none where they are wrong, or ask for what isn't built
+-- yet.
 unfoldable pub command_of : List (List ℕ) → Option Command
-command_of (program ∷ mode ∷ name ∷ options) =
-    if is_name name then command_from name (task_of mode options) else None
-command_of words = None
+command_of said = command_by (words.command_of said)
 
--- what is wanted of a region: at most 64 items; by `opt` at most 8, which write each
--- register once
+-- what is wanted of a region: at most 64 items, and by `opt` at most 8
 abbrev pub wants_of : Task → Wants
-wants_of (cost latency) = record { limit = ITEMS; once = false }
-wants_of (opt latency) = record { limit = LISTED; once = true }
-wants_of (emulate state turns) = record { limit = ITEMS; once = false }
+wants_of (cost latency) = record { limit = ITEMS }
+wants_of (opt aim) = record { limit = SEARCHED }
+wants_of (emulate state turns) = record { limit = ITEMS }
 
 -- A latency is at least 1, where there is one.
 abbrev pub HasLatency : Task → Type 0
 HasLatency (cost latency) = 1 ≤ latency
-HasLatency (opt latency) = 1 ≤ latency
+HasLatency (opt aim) = 1 ≤ aim.latency
 HasLatency (emulate state turns) = Unit {0}
-
--- the name of the state file, where one is read
-abbrev pub state_name : Task → Option (List ℕ)
-state_name (cost latency) = None
-state_name (opt latency) = None
-state_name (emulate state turns) = Some state

@@ -6,8 +6,6 @@ use Rattle.sl_model.specs.declared.schedule.Choice.{Choice}
 use Rattle.sl_model.specs.declared.schedule.CostRow.{CostRow}
 use Rattle.sl_model.specs.Source.{item_at, list_sources, numbers_below}
 use Rattle.sl_model.specs.Cycles.{CostTable, Issued, timed, cycle_count, cycles_of, stalls}
-use Rattle.sl_model.specs.Isa.{Isa}
-use Rattle.sl_model.specs.Legal.{Problem, written, straight_problem}
 
 -- The core `one:L`: one unit takes an item in each cycle, keeps it for one, and each
 -- result is ready after L cycles.
@@ -19,11 +17,6 @@ plain_row latency =
 abbrev pub plain_costs : ℕ → ℕ → CostTable
 plain_costs latency items =
     record { width = 1; rows = replicate items (plain_row latency); forwards = [] }
-
--- The problem of a region: all registers that it writes are live-out, and none is free.
-abbrev pub region_problem : Isa → ℕ → List Instr → Problem
-region_problem isa latency items =
-    straight_problem isa items (written items) [] (plain_costs latency (length items))
 
 -- an item where it stands: on the one unit, its outputs in their own registers
 abbrev pub own_choice : List Instr → ℕ → Choice

@@ -1,21 +1,22 @@
 -- How a call of the command may end: each ending has its cause, and says what the output took.
-use Rattle.std.specs.Prelude.{ℕ, Bool, true, false, ◌≡◌, ◌<◌, List, [], length, take, Option, None, Some, Result, Ok, Err, MatchOption, IfSome, MatchBool, ◌⊎◌}
+use Rattle.std.specs.Prelude.{ℕ, Bool, true, ◌≡◌, ◌≤◌, ◌<◌, List, [], length, take, Option, None, Some, Result, Ok, Err, MatchOption, IfSome, ◌⊎◌}
 use Rattle.std.specs.Io.KnownBytes.{append_known}
 use Rattle.sl_base.specs.Faults.{HasRisen}
 use Rattle.sl_isa.specs.Language.{Language}
-use Rattle.slothy_cli.specs.declared.stop.Quantity.TheVariants as quantities
+use Rattle.slothy_cli.specs.declared.stop.File.{File}
+use Rattle.slothy_cli.specs.declared.stop.File.TheVariants as which
 use Rattle.slothy_cli.specs.declared.stop.Stop.{Stop}
-use Rattle.slothy_cli.specs.declared.stop.Stop.TheVariants as stops
 use Rattle.slothy_cli.specs.declared.status.Status.{Status}
 use Rattle.slothy_cli.specs.declared.status.Status.TheVariants as statuses
 use Rattle.slothy_cli.specs.declared.status.Ending.{Ending}
 use Rattle.slothy_cli.specs.declared.status.Ending.TheVariants.{Done, Usage, Stopped, ReadFault, WriteFault, NoMemory}
-use Rattle.slothy_cli.specs.declared.stop.File.{File}
-use Rattle.slothy_cli.specs.declared.stop.File.TheVariants as which
-use Rattle.slothy_cli.specs.Command.{Task, cost, opt, emulate, Command, command_of, state_name}
-use Rattle.slothy_cli.specs.Outcome.{Bytes, CommandAnswers}
-use Rattle.slothy_cli.specs.Messages.{Names, stop_status, message_of}
+use Rattle.slothy_cli.specs.Command.{Task, cost, opt, emulate, Command, command_of}
+use Rattle.slothy_cli.specs.Reads.{Reads, Given, Halted, Read, too_long}
+use Rattle.slothy_cli.specs.Outcome.{command_reads, WorkAnswers}
+use Rattle.slothy_cli.specs.Messages.{Names, name_in, stop_status, message_of}
 use Rattle.sl_model.specs.declared.limits.TheConstants.{FILE_BYTES}
+
+-- ---- what is seen of a call
 
 -- what is seen of the files over a call: how many calls on them had failed before and after
 -- it, and as it ends the bytes given since the last choice, the chosen name, and whether a
@@ -69,128 +70,123 @@ pub record TookFront (sink : SinkRun) (text : List ℕ) : Type 0 where
   pub taken : sink.after ≡ append_known sink.before (take count text)
   pub whole : (count ≡ length text) ⊎ HasRisen sink.faults_before sink.faults_after
 
+-- ---- how a call follows a tree of reads
+
+-- the names of the files, what a file of a name is known to hold, and what is seen of them
+pub record Seen : Type 0 where
+  pub names : Names
+  pub holds : List ℕ → Option (List ℕ)
+  pub run : FilesRun
+
+-- what is known of the bytes of a file
+abbrev pub known_of : Seen → File → Option (List ℕ)
+known_of seen file = seen.holds (name_in seen.names file)
+
 -- The bytes are those of the file, where these are known.
 abbrev pub AreOf : Option (List ℕ) → List ℕ → Type 0
 AreOf known bytes = IfSome known (λ told. told ≡ bytes)
 
--- what is known of the bytes of a command's files; where no state file is read, it has none
-pub record Known : Type 0 where
-  pub input : Option (List ℕ)
-  pub state : Option (List ℕ)
+-- A read of a file failed: a call on it did; or it is too long, and more than the limit was read; or
+-- memory ran out.
+abbrev pub HasFailed : Seen → File → Result (List ℕ) Ending → Type 0
+HasFailed seen file (Err (ReadFault failed)) =
+    (failed ≡ file) × HasRisen seen.run.faults_before seen.run.faults_after
+    × (seen.run.chosen ≡ name_in seen.names file) × (seen.run.broken ≡ true)
+HasFailed seen file (Err (Stopped stop)) =
+    (stop ≡ too_long file) × (seen.run.chosen ≡ name_in seen.names file)
+    × (FILE_BYTES < seen.run.given)
+    × IfSome (known_of seen file) (λ told. FILE_BYTES < length told)
+HasFailed seen file (Err NoMemory) = Unit {0}
+HasFailed seen file (Err Done) = ⊥
+HasFailed seen file (Err Usage) = ⊥
+HasFailed seen file (Err (WriteFault sent)) = ⊥
+HasFailed seen file (Ok text) = ⊥
 
--- what is known of the bytes that a task reads as its state, where a file of
--- a name holds what is told of it
-abbrev pub state_known : Task → (List ℕ → Option (List ℕ)) → Option (List ℕ)
-state_known (cost latency) holds = Some []
-state_known (opt latency) holds = Some []
-state_known (emulate state turns) holds = holds state
+-- A call came to an answer, or memory ran out.
+abbrev pub HasCome : (Result (List ℕ) Stop → Type 0) → Result (List ℕ) Ending → Type 0
+HasCome IsAnswer (Ok text) = IsAnswer (Ok text)
+HasCome IsAnswer (Err (Stopped stop)) = IsAnswer (Err stop)
+HasCome IsAnswer (Err NoMemory) = Unit {0}
+HasCome IsAnswer (Err Done) = ⊥
+HasCome IsAnswer (Err Usage) = ⊥
+HasCome IsAnswer (Err (ReadFault file)) = ⊥
+HasCome IsAnswer (Err (WriteFault sent)) = ⊥
 
--- what is known of the bytes of a command's files, where a file of a name holds what is told of it
-abbrev pub known_of : Command → (List ℕ → Option (List ℕ)) → Known
-known_of c holds = record { input = holds c.name; state = state_known c.task holds }
+-- A call followed a tree of reads, and came to this: each file that it read has the bytes that it
+-- went on from, where they are known, and no more than the limit; at the end it came to an answer to
+-- what was there, or to the tree's reason to stop; or a read failed.
+unfoldable pub Follows : {A : Type 0} → Seen → (A → Result (List ℕ) Stop → Type 0) → Reads A
+    → Result (List ℕ) Ending → Type 0
+Follows seen Answers (Given a) result = HasCome (Answers a) result
+Follows seen Answers (Halted stop) result = HasCome (λ answer. answer ≡ Err stop) result
+Follows seen Answers (Read file next) result =
+    HasFailed seen file result
+    ⊎ ((bytes : List ℕ) × (length bytes ≤ FILE_BYTES) × AreOf (known_of seen file) bytes
+    × Follows seen Answers (next bytes) result)
 
--- The bytes are those of a command's files, where these are known.
-abbrev pub AreBytesOf : Known → Bytes → Type 0
-AreBytesOf known bytes = AreOf known.input bytes.input × AreOf known.state bytes.state
+-- The files that a tree reads, where they have these bytes, are known to have them.
+unfoldable pub AreTold : {A : Type 0} → Names → (List ℕ → Option (List ℕ)) → (File → List ℕ)
+    → Reads A → Type 0
+AreTold names holds bytes (Given a) = Unit {0}
+AreTold names holds bytes (Halted stop) = Unit {0}
+AreTold names holds bytes (Read file next) =
+    (holds (name_in names file) ≡ Some (bytes file)) × AreTold names holds bytes (next (bytes file))
+
+-- ---- how a command ends
 
 -- the name of the state file, as messages have it: empty where none is read
-abbrev pub state_text_name : Task → List ℕ
-state_text_name (cost latency) = []
-state_text_name (opt latency) = []
-state_text_name (emulate state turns) = state
+abbrev pub state_name : Task → List ℕ
+state_name (cost latency) = []
+state_name (opt aim) = []
+state_name (emulate state turns) = state
 
 -- the names of a command's files, as messages have them
 abbrev pub names_of_command : Command → Names
-names_of_command c = record { input = c.name; state = state_text_name c.task }
+names_of_command c = record { input = c.name; state = state_name c.task }
 
--- the name of a file that a command reads; of a state file only where it reads one
-abbrev pub name_read : Command → File → Option (List ℕ)
-name_read c which.Input = Some c.name
-name_read c which.State = state_name c.task
+-- what is seen of a command's files
+abbrev pub seen_of : Command → (List ℕ → Option (List ℕ)) → FilesRun → Seen
+seen_of c holds run = record { names = names_of_command c; holds = holds; run = run }
 
--- Is the reason to stop that a file is too long?
-abbrev pub is_file_limit : Stop → Bool
-is_file_limit (stops.Refused file line reason) = false
-is_file_limit (stops.TooLarge file line quantities.File limit) = true
-is_file_limit (stops.TooLarge file line quantities.Items limit) = false
-is_file_limit (stops.Infeasible most) = false
-
--- the file that a stop speaks of
-abbrev pub file_of : Stop → File
-file_of (stops.Refused file line reason) = file
-file_of (stops.TooLarge file line quantity limit) = file
-file_of (stops.Infeasible most) = which.Input
-
--- The bytes of the files up to this one are known to be these.
-abbrev pub AreTold : File → Known → Bytes → Type 0
-AreTold which.Input known bytes = known.input ≡ Some bytes.input
-AreTold which.State known bytes =
-    (known.input ≡ Some bytes.input) × (known.state ≡ Some bytes.state)
-
--- There is a text for the bytes of the files.
-pub record HasText (language : Language) (c : Command) (known : Known)
-    (text : List ℕ) : Type 0 where
-  pub bytes : Bytes
-  pub bytes_of_files : AreBytesOf known bytes
-  pub answers : CommandAnswers language c bytes (Ok text)
-
--- There is no text for the bytes of the files.
-pub record HasStop (language : Language) (c : Command) (known : Known) (stop : Stop) : Type 0 where
-  pub bytes : Bytes
-  pub bytes_of_files : AreBytesOf known bytes
-  pub answers : CommandAnswers language c bytes (Err stop)
-
--- why there is no text for a command and its files, whose bytes may be known
-abbrev pub HasCause : Language → Command → Known → FilesRun → Ending → Type 0
--- the files' bytes have none; of a file that is too long, and that the command
--- reads, more than the limit was read
-HasCause language c known files (Stopped stop) =
-    MatchBool (is_file_limit stop)
-    ((name_read c (file_of stop) ≡ Some files.chosen) × (FILE_BYTES < files.given)
-    × ((bytes : Bytes) → AreTold (file_of stop) known bytes
-    → CommandAnswers language c bytes (Err stop)))
-    (HasStop language c known stop)
--- a call on the files failed, and it was one on this file, which the command reads
-HasCause language c known files (ReadFault file) =
-    HasRisen files.faults_before files.faults_after × (name_read c file ≡ Some files.chosen)
-    × (files.broken ≡ true)
--- want of memory has no cause
-HasCause language c known files NoMemory = Unit {0}
-HasCause language c known files Done = ⊥
-HasCause language c known files Usage = ⊥
-HasCause language c known files (WriteFault sent) = ⊥
+-- A command, which reads its files, came to this.
+abbrev pub Comes : Language → Command → Seen → Result (List ℕ) Ending → Type 0
+Comes language c seen result =
+    Follows seen (WorkAnswers language) (command_reads language c) result
 
 -- The ending of a command that isn't wrong has its cause, and says what the output took.
-abbrev pub Ends : Language → Command → Known → FilesRun → SinkRun → Ending → Type 0
+abbrev pub Ends : Language → Command → Seen → SinkRun → Ending → Type 0
 -- the text of the files' bytes was written whole
-Ends language c known files out Done =
-    (text : List ℕ) × HasText language c known text × (out.after ≡ append_known out.before text)
+Ends language c seen out Done =
+    (text : List ℕ) × Comes language c seen (Ok text) × (out.after ≡ append_known out.before text)
 -- a call on the output failed, which had taken so many bytes of the text
-Ends language c known files out (WriteFault sent) =
+Ends language c seen out (WriteFault sent) =
     HasRisen out.faults_before out.faults_after
-    × ((text : List ℕ) × HasText language c known text × (sent < length text)
+    × ((text : List ℕ) × Comes language c seen (Ok text) × (sent < length text)
     × (out.after ≡ append_known out.before (take sent text)))
 -- there is no text, and nothing was written
-Ends language c known files out (Stopped stop) =
-    HasCause language c known files (Stopped stop) × TookNothing out
-Ends language c known files out (ReadFault file) =
-    HasCause language c known files (ReadFault file) × TookNothing out
-Ends language c known files out NoMemory =
-    HasCause language c known files NoMemory × TookNothing out
+Ends language c seen out (Stopped stop) =
+    Comes language c seen (Err (Stopped stop)) × TookNothing out
+Ends language c seen out (ReadFault file) =
+    Comes language c seen (Err (ReadFault file)) × TookNothing out
+Ends language c seen out NoMemory = Comes language c seen (Err NoMemory) × TookNothing out
 -- the words aren't wrong
-Ends language c known files out Usage = ⊥
+Ends language c seen out Usage = ⊥
 
 -- the names of the files that words give, if they are right
 abbrev pub names_given : Option Command → Names
 names_given None = record { input = []; state = [] }
 names_given (Some c) = names_of_command c
 
+-- Words that are wrong end a call as wrong use, or memory ran out.
+abbrev pub IsWrong : Ending → Type 0
+IsWrong ending = (ending ≡ Usage) ⊎ (ending ≡ NoMemory)
+
 -- A call with these words, on files of which `holds` tells what is known, ended so.
 pub record Call (language : Language) (words : List (List ℕ)) (holds : List ℕ → Option (List ℕ))
     (files : FilesRun) (out err : SinkRun) (ending : Ending) : Type 0 where
-  -- wrong use exactly where the words are wrong, and else an ending of the command with its cause
-  pub cause : MatchOption (command_of words) ((ending ≡ Usage) × TookNothing out)
-      (λ c. Ends language c (known_of c holds) files out ending)
+  -- wrong use where the words are wrong, and else an ending of the command with its cause
+  pub cause : MatchOption (command_of words) (IsWrong ending × TookNothing out)
+      (λ c. Ends language c (seen_of c holds files) out ending)
   -- the error output took the ending's message
   pub message : TookFront err (message_of (names_given (command_of words)) ending)
 

@@ -1,9 +1,10 @@
 pub mod Command
 pub mod Shown
+pub mod Reads
 pub mod CostText
 pub mod Plan
+pub mod Inputs
 pub mod Outcome
 pub mod Messages
 pub mod NamesShown
 pub mod Ending
-pub mod Parts

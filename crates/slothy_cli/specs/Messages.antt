@@ -61,6 +61,7 @@ reason_text reasons.NoStart = codes "NoStart"
 reason_text reasons.NoEnd = codes "NoEnd"
 reason_text reasons.Twice = codes "Twice"
 reason_text reasons.TagBad = codes "TagBad"
+reason_text reasons.SymbolUnset = codes "SymbolUnset"
 reason_text reasons.NotYet = codes "NotYet"
 reason_text (reasons.Form form) = form_text form
 reason_text reasons.StateBad = codes "StateBad"

@@ -1,5 +1,5 @@
 -- The names of files, as the definitions see them.
-use Rattle.slothy_cli.specs.declared.report.Names as code
+use Rattle.slothy_cli.specs.declared.files.Names as code
 use Rattle.slothy_cli.specs.Messages.{Names}
 
 -- names without where they lie in memory

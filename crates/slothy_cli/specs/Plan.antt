@@ -1,17 +1,30 @@
--- What the written region of a schedule says of itself.
+-- The problem of a region, and what the written region of a schedule says of itself.
 use Rattle.std.specs.Prelude.{ℕ, List, [], ◌∷◌, length, codes, Some}
 use Rattle.sl_model.specs.declared.instruction.Instr.{Instr}
 use Rattle.sl_model.specs.declared.schedule.Choice.{Choice}
 use Rattle.sl_model.specs.Body.{applied}
 use Rattle.sl_model.specs.Cycles.{timed, cycle_count, cycles_of}
 use Rattle.sl_model.specs.Graph.{body_of}
-use Rattle.sl_model.specs.Legal.{Problem, sources_in}
+use Rattle.sl_model.specs.Isa.{Isa}
+use Rattle.sl_model.specs.declared.frame.Frame.{Frame}
+use Rattle.sl_model.specs.Legal.{Problem, sources_in, frame_of, straight_problem}
 use Rattle.sl_model.specs.Space.{stalls_of}
 use Rattle.sl_isa.specs.Language.{Language}
 use Rattle.asm_reader.specs.declared.words.Part.TheVariants.{Plain}
 use Rattle.asm_reader.specs.Notes.{NoteValue}
 use Rattle.asm_reader.specs.Reading.{Region}
+use Rattle.slothy_cli.specs.Command.{Aim}
+use Rattle.slothy_cli.specs.CostText.{plain_costs}
 use Rattle.asm_printer.specs.Printed.{PlanValue, line_end, region_text, written_text}
+
+-- the registers that live on behind the items of a region, and those that may be written
+abbrev pub region_frame : Aim → List Instr → Frame
+region_frame aim items = frame_of items aim.live aim.free
+
+-- the problem of the items of a region
+abbrev pub region_problem : Isa → Aim → List Instr → Problem
+region_problem isa aim items =
+    straight_problem isa items (region_frame aim items) (plain_costs aim.latency (length items))
 
 -- what is told of an instruction: its old index, the one unit, its cycle and its old line
 abbrev pub note_of : ℕ → ℕ → ℕ → NoteValue
@@ -49,7 +62,7 @@ plan_of problem schedule =
 -- the printed region of a schedule of a problem of a region
 abbrev pub schedule_text : Language → Region → Problem → List Choice → List ℕ
 schedule_text language region problem schedule =
-    region_text language.printed region.tags (applied (body_of problem.graph) schedule)
+    region_text (language.printed region.pairs) region.tags (applied (body_of problem.graph) schedule)
     (plan_of problem schedule) (line_end region.parts.before)
 
 -- the written file of a schedule of a problem of a region

@@ -2,16 +2,21 @@
 
 ghost use Rattle.std.specs.Prelude.{◌≡◌, ◌≤◌, ◌+◌, ◌++◌, length, IfOk, OnOk};
 ghost use Rattle.sl_model.specs.Cycles.{cycles_of, cycle_count, stalls};
+ghost use Rattle.asm_reader.specs.Regions.{AreNamed};
+ghost use Rattle.sl_isa.specs.Language.{IsNamed};
+ghost use Rattle.sl_isa.specs.SymbolViews.{pairs};
 ghost use Rattle.sl_model.specs.Lawful.{IsValid, AreValid};
 ghost use Rattle.slothy_cli.specs.CostText.{own_schedule, own_times, cost_numbers, cost_line, cost_lines, cost_head, cost_text};
 ghost use Rattle.sl_model.specs.declared.limits.TheConstants.{ITEMS};
 
+use crate::command::Aim;
 use crate::problem::region_problem;
 use issue_cost::NoMemory;
 use legal_space::{Choice, Times, times_of};
 use sl_base::{append, append_labelled};
-use sl_isa::Arch;
+use sl_isa::{Arch, Symbols};
 use sl_model::instruction::Instr;
+use sl_model::register::RegSet;
 use std::alloc::{AllocError, Global};
 
 /// The core's one unit.
@@ -35,6 +40,18 @@ fn own_schedule(alloc: Global, items: &[Instr]) -> Result<Vec<Choice>, NoMemory>
     Ok(schedule)
 }
 
+/// What is asked for where nothing is rescheduled: the costs alone.
+fn plain_aim(latency: u8) -> Aim
+    ensures { result.latency ≡ latency }
+{
+    Aim {
+        latency,
+        live: None,
+        free: RegSet { bits: 0 },
+        most: 0,
+    }
+}
+
 /// When items, at most 64, are issued as they stand on the core `one:latency`.
 pub(crate) fn own_times<A: Arch>(
     arch: &A,
@@ -50,7 +67,7 @@ pub(crate) fn own_times<A: Arch>(
     ensures count { IfOk result (λ times. times.count ≡ cycle_count (own_times latency items.now)) }
     ensures stalls { IfOk result (λ times. times.stalls ≡ stalls 1 (own_times latency items.now)) }
 {
-    let problem = region_problem(arch, alloc, items, latency)?;
+    let problem = region_problem(arch, alloc, items, plain_aim(latency))?;
     let schedule = own_schedule(alloc, items)?;
     times_of(alloc, &problem, &schedule)
 }
@@ -79,16 +96,18 @@ fn push_numbers(out: &mut Vec<u8>, cycle: u64, number: u64, line: u64) -> Result
 fn push_line<A: Arch>(
     arch: &A,
     out: &mut Vec<u8>,
+    symbols: &Symbols,
     number: u64,
     item: &Instr,
     cycle: u32,
 ) -> Result<(), NoMemory>
-    requires { IsValid A.language.isa item.now }
-    ensures { OnOk result
-        (out.new.items ≡ out.old.items ++ cost_line A.language.printed number item.now cycle) }
+    requires valid { IsValid A.language.isa item.now }
+    requires named { IsNamed (pairs symbols.now) item.now }
+    ensures { OnOk result (out.new.items ≡ out.old.items
+        ++ cost_line (A.language.printed (pairs symbols.now)) number item.now cycle) }
 {
     push_numbers(out, u64::from(cycle), number, u64::from(item.line))?;
-    arch.print_form(item, out)?;
+    arch.print_form(item, symbols, out)?;
     append(out, b"\n")
 }
 
@@ -97,15 +116,16 @@ fn push_line<A: Arch>(
 fn push_lines<A: Arch>(
     arch: &A,
     out: &mut Vec<u8>,
+    symbols: &Symbols,
     number: u64,
     items: &[Instr],
     cycles: &[u32],
 ) -> Result<(), NoMemory>
     requires few { number + length items.now ≤ ITEMS }
     requires valid { AreValid A.language.isa items.now }
-    ensures { OnOk result
-        (out.new.items ≡ out.old.items
-        ++ cost_lines A.language.printed number items.now cycles.now) }
+    requires named { AreNamed (pairs symbols.now) items.now }
+    ensures { OnOk result (out.new.items ≡ out.old.items
+        ++ cost_lines (A.language.printed (pairs symbols.now)) number items.now cycles.now) }
 {
     let Some((item, items)) = items.split_first() else {
         return Ok(());
@@ -113,24 +133,27 @@ fn push_lines<A: Arch>(
     let Some((cycle, cycles)) = cycles.split_first() else {
         return Ok(());
     };
-    push_line(arch, out, number, item, *cycle)?;
-    push_lines(arch, out, number + 1, items, cycles)
+    push_line(arch, out, symbols, number, item, *cycle)?;
+    push_lines(arch, out, symbols, number + 1, items, cycles)
 }
 
 /// The text of `cost` for items, at most 64, on the core `one:latency`, from 1 to 255: a
 /// line with how many items there are, the cycles that they take and the stalls among
-/// these, and a line for each item.
+/// these, and a line for each item, with the names of its symbolic registers.
 #[tactic(auto, unfolding(crate::specs::CostText::cost_text))]
 pub fn cost_text<A: Arch>(
     arch: &A,
     alloc: Global,
     items: &[Instr],
+    symbols: &Symbols,
     latency: u8,
 ) -> Result<Vec<u8>, NoMemory>
     requires few { length items.now ≤ ITEMS }
     requires least { 1 ≤ latency }
     requires valid { AreValid A.language.isa items.now }
-    ensures { IfOk result (λ text. text.items ≡ cost_text A.language.printed latency items.now) }
+    requires named { AreNamed (pairs symbols.now) items.now }
+    ensures { IfOk result (λ text. text.items
+        ≡ cost_text (A.language.printed (pairs symbols.now)) latency items.now) }
 {
     let times = own_times(arch, alloc, items, latency)?;
     let mut text = Vec::new(alloc);
@@ -140,6 +163,6 @@ pub fn cost_text<A: Arch>(
         u64::from(times.count),
         u64::from(times.stalls),
     )?;
-    push_lines(arch, &mut text, 0, items, &times.cycles)?;
+    push_lines(arch, &mut text, symbols, 0, items, &times.cycles)?;
     Ok(text)
 }

@@ -6,21 +6,17 @@ ghost use Rattle.asm_reader.specs.declared.reasons.Refusal.{Refusal as RefusalVa
 ghost use Rattle.asm_reader.specs.Regions.{IsRegion};
 ghost use Rattle.asm_reader.specs.RegionViews.{region_of};
 ghost use Rattle.sl_model.specs.Answers.{Answers, Gives, Refuses};
-ghost use Rattle.slothy_cli.specs.Outcome.{text_from, stop_at, region_or, region_from, file_region};
-ghost use Rattle.slothy_cli.specs.Shown.{stop_told};
+ghost use Rattle.slothy_cli.specs.Command.{wants_of};
+ghost use Rattle.slothy_cli.specs.Inputs.{text_from, stop_at, region_or, region_from, file_region};
+ghost use Rattle.slothy_cli.specs.Shown.{shown, shown_task, stop_told};
 ghost use Rattle.sl_model.specs.declared.limits.TheConstants.{FILE_BYTES};
 
+use crate::command::Command;
 use crate::stop::{Failure, File, Quantity, Reason, Stop};
-use asm_reader::{ReadRefusal, Reason as RegionReason, Refusal, Region, Wants, read_region};
+use asm_reader::{ReadRefusal, Reason as RegionReason, Refusal, Region, read_region};
 use sl_isa::Arch;
 use sl_text::{CutRefusal, text_of};
 use std::alloc::Global;
-
-/// The label of the line that a region stands below.
-const START: &str = "slothy_start";
-
-/// The label of the line that a region stands above.
-const END: &str = "slothy_end";
 
 /// The bytes of a file as a text.
 pub fn text_from(file: File, bytes: &[u8]) -> Result<&str, Stop>
@@ -49,6 +45,7 @@ fn stop_of(refusal: Refusal) -> Stop
         RegionReason::Cut(CutRefusal::Twice { .. }) => Reason::Twice,
         RegionReason::Form(form) => Reason::Form(form),
         RegionReason::TagBad => Reason::TagBad,
+        RegionReason::SymbolUnset => Reason::SymbolUnset,
         RegionReason::NotYet => Reason::NotYet,
         RegionReason::TooMany(limit) => {
             return Stop::TooLarge {
@@ -81,30 +78,37 @@ fn failure_of(failure: ReadRefusal) -> Failure
 fn region_from<'a, A: Arch>(
     arch: &A,
     alloc: Global,
-    wants: Wants,
+    command: &Command<'_>,
     text: &'a str,
 ) -> Result<Region<'a>, Failure>
     requires { length text.now < 2 ^ 31 }
-    ensures answer { Gives stop_told region_of result (region_from A.language wants text.now) }
-    ensures right { IfOk result (λ region. IsRegion A.language wants (region_of region)) }
+    ensures answer { Gives stop_told region_of result
+        (region_from A.language (shown command.now) text.now) }
+    ensures right { IfOk result
+        (λ region. IsRegion A.language (wants_of (shown_task command.now.task)) (region_of region)) }
 {
-    match read_region(arch, alloc, text, START, END, wants) {
+    let wants = command.task.wants();
+    match read_region(arch, alloc, text, command.start, command.end, wants) {
         Ok(region) => Ok(region),
         Err(failure) => Err(failure_of(failure)),
     }
 }
 
-/// The region of a file with these bytes, of which there are at most 1048576.
+/// The region between a command's markers in a file with these bytes, of which there are at
+/// most 1048576.
+#[tactic(auto, unfolding(crate::specs::Inputs::file_region))]
 pub fn file_region<'a, A: Arch>(
     arch: &A,
     alloc: Global,
-    wants: Wants,
+    command: &Command<'_>,
     bytes: &'a [u8],
 ) -> Result<Region<'a>, Failure>
     requires { length bytes.now ≤ FILE_BYTES }
-    ensures answer { Gives stop_told region_of result (file_region A.language wants bytes.now) }
-    ensures right { IfOk result (λ region. IsRegion A.language wants (region_of region)) }
+    ensures answer { Gives stop_told region_of result
+        (file_region A.language (shown command.now) bytes.now) }
+    ensures right { IfOk result
+        (λ region. IsRegion A.language (wants_of (shown_task command.now.task)) (region_of region)) }
 {
     let text = text_from(File::Input, bytes)?;
-    region_from(arch, alloc, wants, text)
+    region_from(arch, alloc, command, text)
 }

@@ -3,6 +3,7 @@
 
 mod command;
 mod cost;
+mod files;
 mod input;
 mod opt;
 mod plan;

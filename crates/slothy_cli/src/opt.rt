@@ -5,8 +5,9 @@ ghost use Rattle.sl_model.specs.Body.{applied};
 ghost use Rattle.sl_model.specs.Graph.{body_of};
 ghost use Rattle.sl_model.specs.Legal.{IsFullLegal};
 ghost use Rattle.renamer.specs.WellPosed.{IsGraphOf};
-ghost use Rattle.sl_model.specs.declared.limits.TheConstants.{LISTED};
-ghost use Rattle.asm_reader.specs.Regions.{IsRegion};
+ghost use Rattle.sl_model.specs.declared.limits.TheConstants.{SEARCHED};
+ghost use Rattle.sl_isa.specs.SymbolViews.{pairs};
+ghost use Rattle.asm_reader.specs.Regions.{AreNamed, IsRegion};
 ghost use Rattle.asm_reader.specs.RegionViews.{region_of};
 ghost use Rattle.asm_printer.specs.Printed.{is_whole_plan};
 ghost use Rattle.slothy_cli.specs.Plan as plans;
@@ -14,17 +15,18 @@ ghost use Rattle.slothy_cli.specs.Plan.{schedule_file};
 ghost use Rattle.slothy_cli.specs.Command.{opt, wants_of};
 ghost use Rattle.slothy_cli.specs.Outcome.{OptAnswers};
 ghost use Rattle.sl_model.specs.Answers.{Settles};
-ghost use Rattle.slothy_cli.specs.Shown.{stop_told};
+ghost use Rattle.slothy_cli.specs.Shown.{shown_aim, stop_told};
 
+use crate::command::Aim;
 use crate::plan::plan_of;
 use crate::problem::region_problem;
 use crate::stop::{Failure, Stop};
 use asm_printer::written_text;
 use asm_reader::Region;
-use legal_space::{Choice, Problem, best_schedule, times_of};
+use bnb_solver::best_schedule;
+use legal_space::{Choice, Problem, times_of};
 use renamer::apply;
 use sl_isa::Arch;
-use sl_model::limits::STALLS;
 use std::alloc::Global;
 
 // The written file of a full legal schedule of the items of a region.
@@ -36,12 +38,14 @@ fn written_file<A: Arch>(
     region: &Region<'_>,
     schedule: &[Choice],
 ) -> Result<Vec<u8>, Failure>
-    requires few { length schedule.now ≤ LISTED }
+    requires few { length schedule.now ≤ SEARCHED }
     requires known { IsTrue
         (list_all (λ c. nat_lt c.item (length problem.now.graph.items)) schedule.now) }
     requires units { IsTrue (list_all (λ c. nat_lt c.unit 16) schedule.now) }
     requires graph { IsGraphOf A.language.isa problem.now.graph }
     requires legal { IsFullLegal problem.now schedule.now }
+    requires named { AreNamed (pairs region.now.symbols)
+        (applied (body_of problem.now.graph) schedule.now) }
     ensures { Settles stop_told (λ text. text.items) result
         (λ answer. (answer
         ≡ Ok (schedule_file A.language (region_of region.now) problem.now schedule.now))
@@ -54,22 +58,23 @@ fn written_file<A: Arch>(
     Ok(text)
 }
 
-/// The written file of the best schedule of a region of at most 8 items that write each register
-/// once, on the core `one:latency`; or that no schedule has few enough stalls.
+/// The written file of the best schedule of a region of at most 8 items; or that no schedule has few
+/// enough stalls.
 pub fn opt_text<A: Arch>(
     arch: &A,
     alloc: Global,
     region: &Region<'_>,
-    latency: u8,
+    aim: Aim,
 ) -> Result<Vec<u8>, Failure>
-    requires least { 1 ≤ latency }
-    requires right { IsRegion A.language (wants_of (opt latency)) (region_of region.now) }
+    requires least { 1 ≤ aim.latency }
+    requires right { IsRegion A.language (wants_of (opt (shown_aim aim))) (region_of region.now) }
     ensures { Settles stop_told (λ text. text.items) result
-        (OptAnswers A.language latency (region_of region.now)) }
+        (OptAnswers A.language (shown_aim aim) (region_of region.now)) }
 {
-    let problem = region_problem(arch, alloc, &region.items, latency)?;
-    let Some(schedule) = best_schedule(alloc, &problem, STALLS)? else {
-        return Err(Failure::Stopped(Stop::Infeasible { most: STALLS }));
+    let problem = region_problem(arch, alloc, &region.items, aim)?;
+    problem.is_searchable();
+    let Some(schedule) = best_schedule(alloc, &problem, aim.most)? else {
+        return Err(Failure::Stopped(Stop::Infeasible { most: aim.most }));
     };
     written_file(arch, alloc, &problem, region, &schedule)
 }

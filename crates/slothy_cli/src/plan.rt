@@ -1,7 +1,7 @@
 //! What the written region of a schedule says of itself.
 ghost use Rattle.std.specs.Prelude.{◌≡◌, ◌++◌, ◌≤◌, [], length, map, IfOk, OnOk, IsTrue};
 ghost use Rattle.std.specs.List.{list_all};
-ghost use Rattle.sl_model.specs.declared.limits.TheConstants.{LISTED};
+ghost use Rattle.sl_model.specs.declared.limits.TheConstants.{SEARCHED};
 ghost use Rattle.asm_reader.specs.NoteViews.{note_value};
 ghost use Rattle.asm_printer.specs.PlanViews.{plan_value};
 ghost use Rattle.asm_printer.specs.Printed.{is_whole, is_whole_head, is_whole_plan};
@@ -76,7 +76,7 @@ pub(crate) fn plan_of(
     schedule: &[Choice],
     times: &Times,
 ) -> Result<Plan, NoMemory>
-    requires { length schedule.now ≤ LISTED }
+    requires { length schedule.now ≤ SEARCHED }
     ensures told { IfOk result (λ plan. plan_value plan
         ≡ spec.plan_from items.now schedule.now times.now.cycles.items times.now.count
         times.now.stalls) }

@@ -1,11 +1,14 @@
-//! The problem of a region's items on the core `one:L`.
+//! The problem of a region's items.
 ghost use Rattle.std.specs.Prelude.{◌≡◌, ◌≤◌, length, IfOk};
 ghost use Rattle.sl_model.specs.Lawful.{AreValid};
-ghost use Rattle.slothy_cli.specs.CostText.{plain_row, plain_costs, region_problem};
+ghost use Rattle.slothy_cli.specs.CostText.{plain_row, plain_costs};
+ghost use Rattle.slothy_cli.specs.Plan.{region_problem};
+ghost use Rattle.slothy_cli.specs.Shown.{shown_aim};
 ghost use Rattle.sl_model.specs.declared.limits.TheConstants.{ITEMS};
 
+use crate::command::Aim;
 use issue_cost::{CostRow, Costs, NoMemory};
-use legal_space::{Problem, written};
+use legal_space::{Problem, frame_of};
 use sl_isa::Arch;
 use sl_model::instruction::Instr;
 use std::alloc::Global;
@@ -37,21 +40,21 @@ fn plain_costs(alloc: Global, latency: u8, items: usize) -> Result<Costs, NoMemo
     Costs::new(alloc, WIDTH, &rows, &[])
 }
 
-/// The problem of items, at most 64, on the core `one:latency`: all registers that they write
-/// are live-out, and none is free.
+/// The problem of items, at most 64, on the core `one:latency`, with the registers that are live
+/// behind them and those that are free.
 pub fn region_problem<A: Arch>(
     arch: &A,
     alloc: Global,
     items: &[Instr],
-    latency: u8,
+    aim: Aim,
 ) -> Result<Problem, NoMemory>
-    requires least { 1 ≤ latency }
+    requires least { 1 ≤ aim.latency }
     requires few { length items.now ≤ ITEMS }
     requires valid { AreValid A.language.isa items.now }
     ensures { IfOk result
-        (λ problem. problem ≡ region_problem A.language.isa latency items.now) }
+        (λ problem. problem ≡ region_problem A.language.isa (shown_aim aim) items.now) }
 {
-    let live = written(alloc, items)?;
-    let costs = plain_costs(alloc, latency, items.len())?;
-    Problem::straight(arch, alloc, items, &live, &[], &costs)
+    let frame = frame_of(alloc, items, aim.live, aim.free)?;
+    let costs = plain_costs(alloc, aim.latency, items.len())?;
+    Problem::straight(arch, alloc, items, frame, &costs)
 }

@@ -2,32 +2,16 @@
 ghost use Rattle.std.specs.Prelude.{◌≡◌, ◌≤◌, [], ◌∷◌, map, codes};
 ghost use Rattle.std.specs.Fmt.{decimal};
 ghost use Rattle.sl_model.specs.Text.{joined};
-ghost use Rattle.slothy_cli.specs.Messages.{form_text, reason_text, quantity_text, name_in, stop_message, message_of};
+ghost use Rattle.slothy_cli.specs.Messages.{form_text, reason_text, quantity_text, stop_message, message_of};
 ghost use Rattle.slothy_cli.specs.NamesShown.{names_of};
 ghost use Rattle.slothy_cli.specs.Ending.{sink_run, TookFront};
 
+use crate::files::{Names, name_in};
 use crate::status::Ending;
-use crate::stop::{File, Quantity, Reason, Stop};
+use crate::stop::{Quantity, Reason, Stop};
 use itoa::Buffer;
 use sl_base::{Sink, write_all};
 use sl_isa::FormReason;
-
-/// The names of a command's files.
-#[derive(Clone, Copy, Debug)]
-pub struct Names<'a> {
-    pub input: &'a str,
-    pub state: &'a str,
-}
-
-// The name of a file.
-fn name_in<'a>(names: Names<'a>, file: File) -> &'a str
-    ensures { result.now ≡ name_in (names_of names.entry) file }
-{
-    match file {
-        File::Input => names.input,
-        File::State => names.state,
-    }
-}
 
 // Writes texts one behind the other, until the sink fails. It takes no memory.
 fn tell<S: Sink>(sink: &mut S, pieces: &[&str])
@@ -65,6 +49,7 @@ fn reason_text(reason: Reason) -> &'static str
         Reason::NoEnd => "NoEnd",
         Reason::Twice => "Twice",
         Reason::TagBad => "TagBad",
+        Reason::SymbolUnset => "SymbolUnset",
         Reason::NotYet => "NotYet",
         Reason::Form(form) => form_text(form),
         Reason::StateBad => "StateBad",

@@ -2,8 +2,9 @@
 
 ghost use Rattle.std.specs.Prelude.{◌≡◌};
 ghost use Rattle.slothy_cli.specs.Messages.{code_of, status_of};
+ghost use Rattle.slothy_cli.specs.Shown.{failed_ending};
 
-use crate::stop::{File, Stop};
+use crate::stop::{Failure, File, Stop};
 
 /// The status that the program ends with.
 #[derive(Clone, Copy, Debug, PartialEq, Eq)]
@@ -60,6 +61,16 @@ pub enum Ending {
 }
 
 impl Ending {
+    /// How a failure ends a call.
+    pub fn of(failure: Failure) -> Ending
+        ensures { result ≡ failed_ending failure }
+    {
+        match failure {
+            Failure::Stopped(stop) => Ending::Stopped(stop),
+            Failure::NoMemory => Ending::NoMemory,
+        }
+    }
+
     /// The status of the ending.
     pub fn status(&self) -> Status
         ensures { result ≡ status_of self.now }

@@ -19,6 +19,8 @@ pub enum Reason {
     Twice,
     /// A note on the line isn't right, or stands where it can't.
     TagBad,
+    /// A name of a register is read above every instruction that writes it.
+    SymbolUnset,
     /// The line has something that isn't built yet.
     NotYet,
     /// A statement is no instruction.

@@ -1,21 +1,22 @@
 //! The command as a whole.
-ghost use Rattle.std.specs.Prelude.{◌≡◌, ◌≤◌, ◌↔◌, ℕ, List, map, Result, Some, None, string_bytes};
+ghost use Rattle.std.specs.Prelude.{◌≡◌, ◌≤◌, ◌⊎◌, ℕ, List, map, Result, Some, None, string_bytes};
+ghost use Rattle.arm64_table.specs.Arm64.{arm64};
 ghost use Rattle.slothy_cli.specs.declared.status.Ending.{Ending as TheEnding};
+ghost use Rattle.slothy_cli.specs.declared.stop.File.{File as TheFile};
 ghost use Rattle.slothy_cli.specs.declared.stop.Stop.{Stop as TheStop};
 ghost use Rattle.slothy_cli.specs.Command.{Command as Words, HasLatency, command_of};
-ghost use Rattle.slothy_cli.specs.NamesShown.{names_of};
-ghost use Rattle.arm64_table.specs.Arm64.{arm64};
 ghost use Rattle.slothy_cli.specs.Shown.{shown, shown_task};
-ghost use Rattle.slothy_cli.specs.Outcome.{Bytes, CommandAnswers};
-ghost use Rattle.slothy_cli.specs.Messages.{status_of};
-ghost use Rattle.slothy_cli.specs.Ending.{AreTold, known_of, names_of_command, files_run, sink_run, Ends, Call, IsStatusOf, Delivers};
-ghost use Rattle.slothy_cli.specs.declared.stop.File.TheVariants.{State};
+ghost use Rattle.slothy_cli.specs.Outcome.{command_reads, CommandAnswers};
+ghost use Rattle.slothy_cli.specs.Messages.{status_of, message_of};
+ghost use Rattle.slothy_cli.specs.Ending.{AreTold, names_of_command, names_given, seen_of, files_run, sink_run, TookFront, Ends, Call, IsStatusOf, Delivers};
 
-use crate::command::{Command, Task, command_of};
-use crate::report::{Names, report};
+use crate::command::{Command, command_in};
+use crate::files::Names;
+use crate::report::report;
 use crate::status::{Ending, Status};
-use crate::work::text_of_file;
+use crate::work::text_of_files;
 use arm64_table::Arm64;
+use command_words::{WordsErr, read_words};
 use sl_base::{Files, Gate, Sink, write_all};
 use sl_isa::Arch;
 use std::alloc::Global;
@@ -45,28 +46,29 @@ fn carry_out<A: Arch, F: Files, O: Sink>(
     ensures files_never_fall { F.faults files.old ≤ F.faults files.new }
     ensures out_never_falls { O.faults out.old ≤ O.faults out.new }
     ensures ends { Ends A.language (shown command.now)
-        (known_of (shown command.now) (F.holds files.old))
-        (files_run F.faults F.given F.chosen F.broken files.old files.new)
+        (seen_of (shown command.now) (F.holds files.old)
+        (files_run F.faults F.given F.chosen F.broken files.old files.new))
         (sink_run O.taken O.faults out.old out.new) result }
 {
-    match text_of_file(arch, alloc, command, files) {
+    match text_of_files(arch, alloc, command, files) {
         Ok(text) => deliver(out, &text),
         Err(ending) => ending,
     }
 }
 
-// The names of a command's files.
-fn names_of<'a>(command: &Command<'a>) -> Names<'a>
-    ensures { names_of result ≡ names_of_command (shown command.now) }
+// Says on `err` why the words aren't carried out.
+fn refuse<E: Sink>(err: &mut E, ending: Ending) -> Ending
+    ensures ending { result ≡ ending }
+    ensures err_never_falls { E.faults err.old ≤ E.faults err.new }
+    ensures message { TookFront (sink_run E.taken E.faults err.old err.new)
+        (message_of (names_given None) ending) }
 {
-    let state = match command.task {
-        Task::Run { state, .. } => state,
-        _ => "",
+    let names = Names {
+        input: "",
+        state: "",
     };
-    Names {
-        input: command.name,
-        state,
-    }
+    report(err, names, ending);
+    ending
 }
 
 // Carries out what words ask for, and says on `err` what went wrong.
@@ -87,16 +89,16 @@ fn call<A: Arch, F: Files, O: Sink, E: Sink>(
         (sink_run O.taken O.faults out.old out.new)
         (sink_run E.taken E.faults err.old err.new) result }
 {
-    let Some(command) = command_of(words) else {
-        let names = Names {
-            input: "",
-            state: "",
-        };
-        report(err, names, Ending::Usage);
-        return Ending::Usage;
+    let options = match read_words(alloc, words) {
+        Ok(options) => options,
+        Err(WordsErr::Usage) => return refuse(err, Ending::Usage),
+        Err(WordsErr::NoMemory) => return refuse(err, Ending::NoMemory),
+    };
+    let Some(command) = command_in(&options) else {
+        return refuse(err, Ending::Usage);
     };
     let ending = carry_out(arch, alloc, &command, files, out);
-    report(err, names_of(&command), ending);
+    report(err, command.names(), ending);
     ending
 }
 
@@ -120,15 +122,17 @@ pub fn run<R: Threads + Sync, F: Files, O: Sink, E: Sink, G: Gate + Sync>(
         (sink_run O.taken O.faults out.old out.new)
         (sink_run E.taken E.faults err.old err.new) ending }
 
-    // Wrong use is answered exactly where the words are wrong.
-    ensures usage { (result ≡ Status.Usage) ↔ (command_of (map string_bytes words.now) ≡ None) }
+    // Wrong use is answered only where the words are wrong, and there always, want of memory aside.
+    ensures usage { result ≡ Status.Usage → command_of (map string_bytes words.now) ≡ None }
+    ensures wrong { command_of (map string_bytes words.now) ≡ None
+        → (result ≡ Status.Usage) ⊎ (result ≡ Status.NoMemory) }
 
     // Of files whose bytes are known the status is that of their outcome,
     // faults and want of memory aside.
-    ensures exact { (c : Words) (bytes : Bytes) (answer : Result (List ℕ) TheStop)
+    ensures exact { (c : Words) (bytes : TheFile → List ℕ) (answer : Result (List ℕ) TheStop)
         → command_of (map string_bytes words.now) ≡ Some c
-        → AreTold State (known_of c (F.holds files.old)) bytes → CommandAnswers arm64 c bytes answer
-        → IsStatusOf answer result }
+        → AreTold (names_of_command c) (F.holds files.old) bytes (command_reads arm64 c)
+        → CommandAnswers arm64 c bytes answer → IsStatusOf answer result }
 
     // What stays, and counts of faults never fall.
     ensures same_files { F.holds files.new ≡ F.holds files.old }

@@ -1,59 +1,43 @@
 //! From a command and its files to the text.
-ghost use Rattle.std.specs.Prelude.{◌≡◌, ◌≤◌, length, IfOk, IfErr};
+ghost use Rattle.std.specs.Prelude.{◌≡◌, ◌≤◌, length};
+ghost use Rattle.std.specs.List.{AllByRecursion};
 ghost use Rattle.asm_reader.specs.Regions.{IsRegion};
 ghost use Rattle.asm_reader.specs.RegionViews.{region_of};
-ghost use Rattle.std.specs.List.{AllByRecursion};
-ghost use Rattle.sl_model.specs.Lawful.{IsValid};
-ghost use Rattle.slothy_cli.specs.Shown.{shown, shown_task, unread_ending, failed_ending, stop_told};
 ghost use Rattle.sl_model.specs.Answers.{Gives};
-ghost use Rattle.slothy_cli.specs.Command.{HasLatency, wants_of};
-ghost use Rattle.slothy_cli.specs.Outcome.{run_answer};
-ghost use Rattle.slothy_cli.specs.Ending.{AreOf, known_of, state_known, files_run, HasText, HasCause};
-ghost use Rattle.slothy_cli.specs.Parts.{RunText, RunCause, RegionText, RegionCause};
+ghost use Rattle.sl_model.specs.Lawful.{IsValid};
 ghost use Rattle.sl_model.specs.declared.limits.TheConstants.{FILE_BYTES};
+ghost use Rattle.slothy_cli.specs.Command.{HasLatency, wants_of};
+ghost use Rattle.slothy_cli.specs.Ending.{files_run, seen_of, Follows, Comes};
+ghost use Rattle.slothy_cli.specs.Inputs.{run_answer};
+ghost use Rattle.slothy_cli.specs.Outcome.{WorkAnswers, state_reads, task_reads, input_reads};
+ghost use Rattle.slothy_cli.specs.Shown.{shown, shown_task, stop_told, ended, told};
 
 use crate::command::{Command, Task};
 use crate::cost::cost_text;
+use crate::files::read_file;
 use crate::input::{file_region, text_from};
 use crate::opt::opt_text;
 use crate::status::Ending;
-use crate::stop::{Failure, File, Quantity, Reason, Stop};
+use crate::stop::{Failure, File, Reason, Stop};
 use asm_reader::Region;
-use sl_base::{Files, ReadErr, read_all};
+use sl_base::Files;
 use sl_isa::{Arch, Instr};
-use sl_model::limits::FILE_BYTES;
 use state_text::{StateErr, run_on_state};
 use std::alloc::Global;
 
-// How a file that couldn't be read ends the call.
-fn unread(file: File, error: ReadErr) -> Ending
-    ensures { result ≡ unread_ending file error }
+// What an answer to the files' bytes makes of the call.
+fn ended(answer: Result<Vec<u8>, Failure>) -> Result<Vec<u8>, Ending>
+    ensures { result ≡ ended answer }
 {
-    match error {
-        ReadErr::ReadFault => Ending::ReadFault(file),
-        ReadErr::TooLong { .. } => Ending::Stopped(Stop::TooLarge {
-            file,
-            line: 0,
-            quantity: Quantity::File,
-            limit: FILE_BYTES,
-        }),
-        ReadErr::NoMemory => Ending::NoMemory,
-    }
-}
-
-// How files without a text end the call.
-fn unanswered(failure: Failure) -> Ending
-    ensures { result ≡ failed_ending failure }
-{
-    match failure {
-        Failure::Stopped(stop) => Ending::Stopped(stop),
-        Failure::NoMemory => Ending::NoMemory,
+    match answer {
+        Ok(text) => Ok(text),
+        Err(failure) => Err(Ending::of(failure)),
     }
 }
 
 // What a run answers to the items of a region and the bytes of the state file, of
 // which there are at most 1048576.
-#[tactic(auto, unfolding(crate::specs::Outcome::run_answer))]
+#[tactic(auto, unfolding(crate::specs::Inputs::run_answer))]
 fn run_answer<A: Arch>(
     arch: &A,
     alloc: Global,
@@ -81,25 +65,22 @@ fn run_answer<A: Arch>(
 fn text_of_state<A: Arch, F: Files>(
     arch: &A,
     alloc: Global,
-    items: &[Instr],
-    name: &str,
+    command: &Command<'_>,
+    region: &Region<'_>,
     files: &mut F,
 ) -> Result<Vec<u8>, Ending>
-    requires valid { AllByRecursion (IsValid A.language.isa) items.now }
+    requires valid { AllByRecursion (IsValid A.language.isa) region.now.items.items }
     ensures same_files { F.holds files.new ≡ F.holds files.old }
     ensures never_falls { F.faults files.old ≤ F.faults files.new }
-    ensures text { IfOk result
-        (λ text. RunText A.language items.now (F.holds files.old name.now) text.items) }
-    ensures cause { IfErr result
-        (λ ending. RunCause A.language items.now (F.holds files.old name.now) name.now
-        (files_run F.faults F.given F.chosen F.broken files.old files.new) ending) }
+    ensures follows { Follows
+        (seen_of (shown command.now) (F.holds files.old)
+        (files_run F.faults F.given F.chosen F.broken files.old files.new))
+        (WorkAnswers A.language) (state_reads (region_of region.now))
+        (told (λ text. text.items) result) }
 {
-    match read_all(alloc, files, name, FILE_BYTES) {
-        Ok(bytes) => match run_answer(arch, alloc, items, &bytes) {
-            Ok(text) => Ok(text),
-            Err(failure) => Err(unanswered(failure)),
-        },
-        Err(error) => Err(unread(File::State, error)),
+    match read_file(alloc, command.names(), File::State, files) {
+        Ok(bytes) => ended(run_answer(arch, alloc, &region.items, &bytes)),
+        Err(ending) => Err(ending),
     }
 }
 
@@ -107,37 +88,40 @@ fn text_of_state<A: Arch, F: Files>(
 fn text_of_region<A: Arch, F: Files>(
     arch: &A,
     alloc: Global,
-    task: Task<'_>,
+    command: &Command<'_>,
     region: &Region<'_>,
     files: &mut F,
 ) -> Result<Vec<u8>, Ending>
-    requires least { HasLatency (shown_task task) }
-    requires right { IsRegion A.language (wants_of (shown_task task)) (region_of region.now) }
+    requires least { HasLatency (shown_task command.now.task) }
+    requires right { IsRegion A.language (wants_of (shown_task command.now.task))
+        (region_of region.now) }
     ensures same_files { F.holds files.new ≡ F.holds files.old }
     ensures never_falls { F.faults files.old ≤ F.faults files.new }
-    ensures text { IfOk result
-        (λ text. RegionText A.language (shown_task task.entry) (region_of region.now)
-        (state_known (shown_task task.entry) (F.holds files.old)) text.items) }
-    ensures cause { IfErr result
-        (λ ending. RegionCause A.language (shown_task task.entry) (region_of region.now)
-        (state_known (shown_task task.entry) (F.holds files.old))
-        (files_run F.faults F.given F.chosen F.broken files.old files.new) ending) }
+    ensures follows { Follows
+        (seen_of (shown command.now) (F.holds files.old)
+        (files_run F.faults F.given F.chosen F.broken files.old files.new))
+        (WorkAnswers A.language)
+        (task_reads (shown_task command.now.task) (region_of region.now))
+        (told (λ text. text.items) result) }
 {
-    match task {
-        Task::Cost { latency } => match cost_text(arch, alloc, &region.items, latency) {
+    match command.task {
+        Task::Cost { latency } => match cost_text(
+            arch,
+            alloc,
+            &region.items,
+            &region.symbols,
+            latency,
+        ) {
             Ok(text) => Ok(text),
             Err(_) => Err(Ending::NoMemory),
         },
-        Task::Opt { latency } => match opt_text(arch, alloc, region, latency) {
-            Ok(text) => Ok(text),
-            Err(failure) => Err(unanswered(failure)),
-        },
-        Task::Run { state, .. } => text_of_state(arch, alloc, &region.items, state, files),
+        Task::Opt(aim) => ended(opt_text(arch, alloc, region, aim)),
+        Task::Run { .. } => text_of_state(arch, alloc, command, region, files),
     }
 }
 
-// The text of a command, from the bytes of its file, of which there are at most 1048576.
-fn text_of_bytes<A: Arch, F: Files>(
+// The text of a command, from the bytes of its input, of which there are at most 1048576.
+fn text_of_input<A: Arch, F: Files>(
     arch: &A,
     alloc: Global,
     command: &Command<'_>,
@@ -146,23 +130,23 @@ fn text_of_bytes<A: Arch, F: Files>(
 ) -> Result<Vec<u8>, Ending>
     requires least { HasLatency (shown_task command.now.task) }
     requires short { length bytes.now ≤ FILE_BYTES }
-    requires told { AreOf (F.holds files.old command.now.name.now) bytes.now }
     ensures same_files { F.holds files.new ≡ F.holds files.old }
     ensures never_falls { F.faults files.old ≤ F.faults files.new }
-    ensures text { IfOk result (λ text. HasText A.language (shown command.now)
-        (known_of (shown command.now) (F.holds files.old)) text.items) }
-    ensures cause { IfErr result (λ ending. HasCause A.language (shown command.now)
-        (known_of (shown command.now) (F.holds files.old))
-        (files_run F.faults F.given F.chosen F.broken files.old files.new) ending) }
+    ensures follows { Follows
+        (seen_of (shown command.now) (F.holds files.old)
+        (files_run F.faults F.given F.chosen F.broken files.old files.new))
+        (WorkAnswers A.language)
+        (input_reads A.language (shown command.now) bytes.now)
+        (told (λ text. text.items) result) }
 {
-    match file_region(arch, alloc, command.task.wants(), bytes) {
-        Ok(region) => text_of_region(arch, alloc, command.task, &region, files),
-        Err(failure) => Err(unanswered(failure)),
+    match file_region(arch, alloc, command, bytes) {
+        Ok(region) => text_of_region(arch, alloc, command, &region, files),
+        Err(failure) => Err(Ending::of(failure)),
     }
 }
 
 /// The text of a command, from its files.
-pub fn text_of_file<A: Arch, F: Files>(
+pub fn text_of_files<A: Arch, F: Files>(
     arch: &A,
     alloc: Global,
     command: &Command<'_>,
@@ -171,14 +155,13 @@ pub fn text_of_file<A: Arch, F: Files>(
     requires least { HasLatency (shown_task command.now.task) }
     ensures same_files { F.holds files.new ≡ F.holds files.old }
     ensures never_falls { F.faults files.old ≤ F.faults files.new }
-    ensures text { IfOk result (λ text. HasText A.language (shown command.now)
-        (known_of (shown command.now) (F.holds files.old)) text.items) }
-    ensures cause { IfErr result (λ ending. HasCause A.language (shown command.now)
-        (known_of (shown command.now) (F.holds files.old))
-        (files_run F.faults F.given F.chosen F.broken files.old files.new) ending) }
+    ensures comes { Comes A.language (shown command.now)
+        (seen_of (shown command.now) (F.holds files.old)
+        (files_run F.faults F.given F.chosen F.broken files.old files.new))
+        (told (λ text. text.items) result) }
 {
-    match read_all(alloc, files, command.name, FILE_BYTES) {
-        Ok(bytes) => text_of_bytes(arch, alloc, command, &bytes, files),
-        Err(error) => Err(unread(File::Input, error)),
+    match read_file(alloc, command.names(), File::Input, files) {
+        Ok(bytes) => text_of_input(arch, alloc, command, &bytes, files),
+        Err(ending) => Err(ending),
     }
 }

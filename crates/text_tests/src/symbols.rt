@@ -21,6 +21,12 @@ fn each_pair_of_bank_and_name_has_its_number(rt: HostRuntime) -> Failing {
     failing.check("a pair again", again == Ok(1));
     failing.check("the last name", symbols.name(2) == Some("A"));
     failing.check("no name", symbols.name(3) == None);
+    failing.check("a known pair", symbols.known(Bank::Vector, "a") == Some(1));
+    failing.check("no known pair", symbols.known(Bank::Vector, "A") == None);
+    failing.check("three pairs", symbols.count() == 3);
+    symbols.truncate(2);
+    failing.check("two pairs", symbols.count() == 2);
+    failing.check("a forgotten name", symbols.name(2) == None);
     failing
 }
 

@@ -1,7 +1,7 @@
 use Rattle.std.proofs.Common.{ℕ, List, ◌≤◌, false, length, All, ap, sym, subst, ◌∙◌, arith}
 use Rattle.std.proofs.lemmas.List.Elements.{All-head, All-tail}
 use Rattle.sl_text.specs.Lines.{lines_left}
-use Rattle.asm_reader.specs.Reading.{open_after}
+use Rattle.asm_reader.specs.Before.{open_after}
 use Rattle.asm_reader.proofs.Unclosed.{open_nowhere, open_below}
 use Rattle.asm_reader.proofs.lines.is_open_after.Goals as goal
 

@@ -1,7 +1,7 @@
 use Rattle.std.proofs.Common.{◌≡◌, ◌≤◌, false, length, All}
 use Rattle.sl_model.specs.Text.{numbered_lines}
 use Rattle.sl_text.specs.Lines.{lines_left}
-use Rattle.asm_reader.specs.Reading.{open_after}
+use Rattle.asm_reader.specs.Before.{open_after}
 use Rattle.asm_reader.proofs.lines.is_open_after.Given as goal
 
 -- what is open behind the lines that are left is open behind all

@@ -1,6 +1,6 @@
 use Rattle.std.proofs.Common.{◌≡◌, true, false, ap, sym, ◌∙◌}
 use Rattle.sl_text.specs.Lines.{lines_left}
-use Rattle.asm_reader.specs.Reading.{holds_unbuilt, first_unbuilt}
+use Rattle.asm_reader.specs.Before.{holds_unbuilt, first_unbuilt}
 use Rattle.asm_reader.proofs.Unclosed.{unbuilt_here, unbuilt_below, unbuilt_nowhere}
 use Rattle.asm_reader.proofs.region.first_unbuilt.Goals as goal
 

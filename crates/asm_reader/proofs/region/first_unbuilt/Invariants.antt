@@ -1,7 +1,7 @@
 use Rattle.std.proofs.Common.{◌≡◌}
 use Rattle.sl_model.specs.Text.{numbered_lines}
 use Rattle.sl_text.specs.Lines.{lines_left}
-use Rattle.asm_reader.specs.Reading.{first_unbuilt}
+use Rattle.asm_reader.specs.Before.{first_unbuilt}
 use Rattle.asm_reader.proofs.region.first_unbuilt.Given as goal
 
 -- what is to be found in the lines that are left is what is to be found in all

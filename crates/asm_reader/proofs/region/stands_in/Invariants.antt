@@ -1,5 +1,5 @@
 use Rattle.std.proofs.Common.{◌≡◌, drop}
-use Rattle.asm_reader.specs.Reading.{stands_in}
+use Rattle.asm_reader.specs.Before.{stands_in}
 use Rattle.asm_reader.proofs.region.stands_in.Given as goal
 
 -- what is to be found from this place on is what is to be found in all

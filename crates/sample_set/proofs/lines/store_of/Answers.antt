@@ -6,4 +6,4 @@ use Rattle.sample_set.proofs.lines.store_of.Goals as goal
 
 pub returns-clause-valid : goal.returns-clause-valid
 unfolding few
-returns-clause-valid c = subst (IsValid few.isa) (sym c.plain_store.ensures) (store_valid c.args.value c.args.base c.args.step c.args.tag c.requires.value c.requires.base c.requires.step)
+returns-clause-valid c = subst (IsValid few.isa) (sym c.plain_store.ensures) (store_valid c.args.value c.args.base c.args.step c.args.tag c.requires.value c.requires.base c.requires.apart c.requires.step)

@@ -6,7 +6,7 @@ use Rattle.asm_reader.specs.DraftViews.{draft_value}
 use Rattle.asm_reader.specs.TagViews.{tag_names}
 use Rattle.asm_reader.specs.Tags.{with_tag}
 use Rattle.asm_reader.specs.Notes.{NoteValue, Remark}
-use Rattle.asm_reader.specs.Reading.{Draft, with_last, marked}
+use Rattle.asm_reader.specs.Drafts.{Draft, with_last, marked}
 use Rattle.asm_reader.specs.declared.note.Note.{Note}
 use Rattle.asm_reader.proofs.LastOnes.{length_last, put_back}
 use Rattle.asm_reader.proofs.Mapped.{last_map}

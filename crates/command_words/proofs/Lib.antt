@@ -1,0 +1,12 @@
+mod Arguments
+mod Kept
+mod Settled
+mod EachWord
+mod Defaults
+mod Apps
+mod Refusing
+mod Front
+mod Steps
+mod ListedSets
+mod Parse
+mod Wholeness

@@ -1,0 +1,214 @@
+-- What a command asks for is whole: each number in its range, each name and label there.
+use Rattle.std.proofs.Common.{◌≡◌, ◌≢◌, ◌∙◌, ℕ, ◌≤◌, Bool, true, false, ◌&&◌, ◌||◌, not, is_some, [], ◌∷◌, length, drop, None, Some, Option, Result, Ok, Err, if◌then◌else◌, refl, sym, ap, arith, true≢false, nat_le, eqb}
+use Rattle.std.specs.Prelude.{IfOk, IfSome, codes, nat_eq}
+use Rattle.std.specs.Char.{is_ascii_alphabetic}
+use Rattle.std.specs.List.{starts_with, list_all}
+use Rattle.std.specs.Str.{bytes_eq}
+use Rattle.std.proofs.lemmas.Bool.{and_parts, leb-true, not-true}
+use Rattle.std.proofs.lemmas.Slice.Eq.{bytes_eq-Decides}
+use Rattle.sl_model.specs.declared.limits.TheConstants.{STALLS, TURNS}
+use Rattle.sl_model.specs.declared.register.RegSet.{RegSet}
+use Rattle.sl_model.specs.Digits.{decimal_number}
+use Rattle.command_words.specs.declared.options.Mode.{Mode}
+use Rattle.command_words.specs.declared.options.Mode.TheVariants.{Cost, Opt, Run}
+use Rattle.command_words.specs.declared.options.CoreWord.{CoreWord}
+use Rattle.command_words.specs.declared.options.TheConstants.{LATENCY, MOST_STALLS, TURNS_UNSAID}
+use Rattle.command_words.specs.Answer.{WrongUse, wrong_use}
+use Rattle.command_words.specs.Command.{within, number_in, number_or, file_name, plain_core, file_core, core_named, core_of, state_of, input_of, is_label, is_label_byte, label_or, two_labels, labels_of, live_of, free_of, mode_by, mode_of, architecture, suited, files_by, registers_by, numbers_by, options_of, register_set}
+use Rattle.command_words.specs.Table.{Text, suits, option_lines}
+use Rattle.command_words.specs.Whole.{IsWholeCore, IsListedSet, needs_core, IsWhole}
+use Rattle.command_words.proofs.Steps.{step, anything, let_through, kept_out}
+use Rattle.command_words.proofs.ListedSets.{list-listed, none-listed}
+
+-- ---- numbers
+
+abbrev IsBetween : ℕ → ℕ → ℕ → Type 0
+IsBetween least most n = (least ≤ n) × (n ≤ most)
+
+within-between : (least most : ℕ) (o : Option ℕ) → IfOk (within least most o) (IsBetween least most)
+within-between least most None = tt
+within-between least most (Some n) =
+    let_through (IsBetween least most) (nat_le least n) (if nat_le n most then Ok n else Err wrong_use)
+    (λ above. let_through (IsBetween least most) (nat_le n most) (Ok n) (λ below. (leb-true least n above, leb-true n most below)))
+
+number-between : (least most : ℕ) (word : Text) → IfOk (number_in least most word) (IsBetween least most)
+unfolding number_in
+number-between least most word = within-between least most (decimal_number word)
+
+-- a number that is said or not
+number-most : (unsaid most : ℕ) (word : Option Text) → unsaid ≤ most → IfOk (number_or unsaid most word) (λ n. n ≤ most)
+number-most unsaid most None le = le
+number-most unsaid most (Some word) le = second (number_in 0 most word) (number-between 0 most word)
+  where
+    second : (r : Result ℕ WrongUse) → IfOk r (IsBetween 0 most) → IfOk r (λ n. n ≤ most)
+    second (Ok n) h = h.1
+    second (Err e) h = tt
+
+-- ---- names
+
+-- a text whose length isn't 0
+some-text : (word : Text) → eqb (length word) 0 ≡ false → word ≢ []
+some-text word some none = true≢false (sym (ap (λ (w : Text). eqb (length w) 0) none) ∙ some)
+
+name-there : (word : Text) → IfOk (file_name word) (λ name. name ≢ [])
+unfolding file_name
+name-there word = kept_out (λ (name : Text). name ≢ []) (eqb (length word) 0) (if bytes_eq word (codes "-") then Err wrong_use else Ok word)
+    (λ some. kept_out (λ (name : Text). name ≢ []) (bytes_eq word (codes "-")) (Ok word) (λ other. some-text word some))
+
+core-whole : (word : Text) → IfOk (core_named word) IsWholeCore
+unfolding core_named
+core-whole word = go (starts_with nat_eq word (codes "one:"))
+  where
+    go : (b : Bool) → IfOk (if b then plain_core (drop 4 word) else file_core word) IsWholeCore
+    go true = step (IsBetween 1 LATENCY) IsWholeCore (number_in 1 LATENCY (drop 4 word)) _ (number-between 1 LATENCY (drop 4 word)) (λ n is. is)
+    go false = step (λ (name : Text). name ≢ []) IsWholeCore (file_name word) _ (name-there word) (λ name there. there)
+
+-- what is said of something that isn't asked of all
+abbrev IsAsked : {X : Type 0} → (X → Type 0) → Option Text → Option X → Type 0
+IsAsked P word o = (is_some o ≡ is_some word) × IfSome o P
+
+core-asked : (word : Option Text) → IfOk (core_of word) (IsAsked IsWholeCore word)
+unfolding core_of
+core-asked None = (refl, tt)
+core-asked (Some word) = step IsWholeCore (IsAsked IsWholeCore (Some word)) (core_named word) _ (core-whole word) (λ core is. (refl, is))
+
+state-asked : (word : Option Text) → IfOk (state_of word) (IsAsked (λ name. name ≢ []) word)
+unfolding state_of
+state-asked None = (refl, tt)
+state-asked (Some word) = step (λ (name : Text). name ≢ []) (IsAsked (λ (name : Text). name ≢ []) (Some word)) (file_name word) _ (name-there word) (λ name is. (refl, is))
+
+input-there : (word : Option Text) → IfOk (input_of word) (λ input. input ≢ [])
+unfolding input_of
+input-there None = tt
+input-there (Some word) = kept_out (λ (input : Text). input ≢ []) (eqb (length word) 0) (Ok word) (some-text word)
+
+-- ---- labels
+
+label-there : (unsaid : Text) (word : Option Text) → unsaid ≢ [] → IfOk (label_or unsaid word) (λ label. label ≢ [])
+unfolding is_label
+label-there unsaid None there = there
+label-there unsaid (Some []) there = tt
+label-there unsaid (Some (c ∷ rest)) there = let_through (λ (label : Text). label ≢ [])
+    (if is_ascii_alphabetic c || eqb c 95 then list_all is_label_byte rest else false) (Ok (c ∷ rest)) (λ is e. absurd (cc))
+
+abbrev AreLabels : Text × Text → Type 0
+AreLabels labels = (labels.0 ≢ []) × (labels.1 ≢ []) × (labels.0 ≢ labels.1)
+
+two-differ : (start end : Text) → start ≢ [] → end ≢ [] → IfOk (two_labels start end) AreLabels
+two-differ start end here there = kept_out AreLabels (bytes_eq start end) (Ok (start, end))
+    (λ other. (here, there, λ same. true≢false (sym ((bytes_eq-Decides start end).1 same) ∙ other)))
+
+labels-differ : (first last : Option Text) → IfOk (labels_of first last) AreLabels
+unfolding labels_of
+labels-differ first last =
+    step (λ (label : Text). label ≢ []) AreLabels (label_or (codes "slothy_start") first) _ (label-there (codes "slothy_start") first (λ e. absurd (cc)))
+    (λ start here. step (λ (label : Text). label ≢ []) AreLabels (label_or (codes "slothy_end") last) _ (label-there (codes "slothy_end") last (λ e. absurd (cc)))
+    (λ end there. two-differ start end here there))
+
+-- ---- registers
+
+live-listed : (word : Option Text) → IfOk (live_of word) (λ live. IfSome live IsListedSet)
+unfolding live_of
+live-listed None = tt
+live-listed (Some word) = step IsListedSet (λ (live : Option RegSet). IfSome live IsListedSet) (register_set word) _ (list-listed word) (λ set is. is)
+
+free-listed : (word : Option Text) → IfOk (free_of word) IsListedSet
+unfolding free_of
+free-listed None = none-listed
+free-listed (Some word) = list-listed word
+
+-- ---- modes
+
+-- what a mode has that suits it
+abbrev HasNeeds : (Text → Option Text) → Mode → Type 0
+HasNeeds look mode = (is_some (look (codes "core")) ≡ needs_core mode) × (is_some (look (codes "state")) ≡ not (needs_core mode))
+
+before : (a b : Bool) → (a && b) ≡ true → a ≡ true
+before a b e = (and_parts a b e).0
+
+behind : (a b : Bool) → (a && b) ≡ true → b ≡ true
+behind a b e = (and_parts a b e).1
+
+cost-needs : (core live free stalls state turns : Bool) → (core && (not live && (not free && (not stalls && (not state && (not turns && true)))))) ≡ true → (core ≡ true) × (state ≡ false)
+cost-needs core live free stalls state turns e = (
+  before core _ e,
+  not-true state (before (not state) _ (behind (not stalls) _ (behind (not free) _ (behind (not live) _ (behind core _ e))))),
+)
+
+opt-needs : (core state turns : Bool) → (core && (not state && (not turns && true))) ≡ true → (core ≡ true) × (state ≡ false)
+opt-needs core state turns e = (before core _ e, not-true state (before (not state) _ (behind core _ e)))
+
+run-needs : (core live free stalls state : Bool) → (not core && (not live && (not free && (not stalls && (state && true))))) ≡ true → (core ≡ false) × (state ≡ true)
+run-needs core live free stalls state e = (
+  not-true core (before (not core) _ e),
+  before state _ (behind (not stalls) _ (behind (not free) _ (behind (not live) _ (behind (not core) _ e)))),
+)
+
+needs-met : (look : Text → Option Text) (mode : Mode) → suits mode look ≡ true → HasNeeds look mode
+unfolding suits option_lines
+needs-met look Cost e = cost-needs (is_some (look (codes "core"))) (is_some (look (codes "live"))) (is_some (look (codes "free"))) (is_some (look (codes "max-stalls"))) (is_some (look (codes "state"))) (is_some (look (codes "turns"))) e
+needs-met look Opt e = opt-needs (is_some (look (codes "core"))) (is_some (look (codes "state"))) (is_some (look (codes "turns"))) e
+needs-met look Run e = run-needs (is_some (look (codes "core"))) (is_some (look (codes "live"))) (is_some (look (codes "free"))) (is_some (look (codes "max-stalls"))) (is_some (look (codes "state"))) e
+
+mode-needs : (look : Text → Option Text) → IfOk (mode_by look) (HasNeeds look)
+unfolding mode_by suited
+mode-needs look =
+    step (λ (mode : Mode). Unit {0}) (HasNeeds look) (mode_of (look (codes "MODE"))) _ (anything (mode_of (look (codes "MODE"))))
+    (λ mode any. step (λ (u : Unit {0}). Unit {0}) (HasNeeds look) (architecture (look (codes "arch"))) _ (anything (architecture (look (codes "arch"))))
+    (λ u any. let_through (HasNeeds look) (suits mode look) (Ok mode) (needs-met look mode)))
+
+-- ---- all of it
+
+abbrev AreFiles : (Text → Option Text) → Text × Option CoreWord × Option Text → Type 0
+AreFiles look files = (files.0 ≢ []) × IsAsked IsWholeCore (look (codes "core")) files.1 × IsAsked (λ name. name ≢ []) (look (codes "state")) files.2
+
+files-whole : (look : Text → Option Text) → IfOk (files_by look) (AreFiles look)
+unfolding files_by
+files-whole look =
+    step (λ (input : Text). input ≢ []) (AreFiles look) (input_of (look (codes "INPUT"))) _ (input-there (look (codes "INPUT")))
+    (λ input there. step (IsAsked IsWholeCore (look (codes "core"))) (AreFiles look) (core_of (look (codes "core"))) _ (core-asked (look (codes "core")))
+    (λ core is. step (IsAsked (λ (name : Text). name ≢ []) (look (codes "state"))) (AreFiles look) (state_of (look (codes "state"))) _ (state-asked (look (codes "state")))
+    (λ state of. (there, is, of))))
+
+abbrev AreSets : Option RegSet × RegSet → Type 0
+AreSets sets = IfSome sets.0 IsListedSet × IsListedSet sets.1
+
+registers-whole : (look : Text → Option Text) → IfOk (registers_by look) AreSets
+unfolding registers_by
+registers-whole look =
+    step (λ (live : Option RegSet). IfSome live IsListedSet) AreSets (live_of (look (codes "live"))) _ (live-listed (look (codes "live")))
+    (λ live is. step IsListedSet AreSets (free_of (look (codes "free"))) _ (free-listed (look (codes "free"))) (λ free of. (is, of)))
+
+abbrev AreNumbers : ℕ × ℕ → Type 0
+AreNumbers numbers = (numbers.0 ≤ MOST_STALLS) × (numbers.1 ≤ TURNS)
+
+numbers-whole : (look : Text → Option Text) → IfOk (numbers_by look) AreNumbers
+unfolding numbers_by
+numbers-whole look =
+    step (λ (n : ℕ). n ≤ MOST_STALLS) AreNumbers (number_or STALLS MOST_STALLS (look (codes "max-stalls"))) _ (number-most STALLS MOST_STALLS (look (codes "max-stalls")) (omega arith))
+    (λ stalls few. step (λ (n : ℕ). n ≤ TURNS) AreNumbers (number_or TURNS_UNSAID TURNS (look (codes "turns"))) _ (number-most TURNS_UNSAID TURNS (look (codes "turns")) (omega arith))
+    (λ turns less. (few, less)))
+
+-- what is asked for is whole
+pub options-whole : (look : Text → Option Text) → IfOk (options_of look) IsWhole
+unfolding options_of
+options-whole look =
+    step (HasNeeds look) IsWhole (mode_by look) _ (mode-needs look)
+    (λ mode needs. step (AreFiles look) IsWhole (files_by look) _ (files-whole look)
+    (λ files named. step AreLabels IsWhole (labels_of (look (codes "start")) (look (codes "end"))) _ (labels-differ (look (codes "start")) (look (codes "end")))
+    (λ labels differ. step AreSets IsWhole (registers_by look) _ (registers-whole look)
+    (λ sets listed. step AreNumbers IsWhole (numbers_by look) _ (numbers-whole look)
+    (λ numbers few. record {
+      input = named.0;
+      needed = named.1.0 ∙ needs.0;
+      core = named.1.1;
+      runs = named.2.0 ∙ needs.1;
+      state = named.2.1;
+      start = differ.0;
+      end = differ.1;
+      differ = differ.2;
+      live = listed.0;
+      free = listed.1;
+      most = few.0;
+      turns = few.1;
+    })))))

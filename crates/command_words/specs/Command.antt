@@ -1,0 +1,242 @@
+-- What the words of a command ask for. Source: this project's own command line; names of registers
+-- are those of DDI 0487 (A64).
+use Rattle.std.specs.Prelude.{ℕ, Bool, true, false, ◌==◌, ◌||◌, nat_eq, nat_le, List, [], ◌∷◌, length, drop, codes, Option, None, Some, Result, Ok, Err, if◌then◌else◌}
+use Rattle.std.specs.List.{starts_with, list_all, slice_split}
+use Rattle.std.specs.Str.{bytes_eq}
+use Rattle.std.specs.Char.{is_ascii_alphabetic, is_ascii_alphanumeric}
+use Rattle.sl_model.specs.declared.instruction.ArchName.TheVariants.{Arm64}
+use Rattle.sl_model.specs.declared.limits.TheConstants.{STALLS, TURNS}
+use Rattle.sl_model.specs.declared.register.Bank.{Bank}
+use Rattle.sl_model.specs.declared.register.Bank.TheVariants.{General, Vector, Flags, Stack}
+use Rattle.sl_model.specs.declared.register.Reg.{Reg}
+use Rattle.sl_model.specs.declared.register.RegSet.{RegSet}
+use Rattle.sl_model.specs.Digits.{decimal_number}
+use Rattle.sl_model.specs.RegisterNames.{register_in, register_named}
+use Rattle.sl_model.specs.RegSets.{set_of}
+use Rattle.sl_model.specs.ResultSteps.{◌>>=◌}
+use Rattle.command_words.specs.declared.options.Mode.{Mode}
+use Rattle.command_words.specs.declared.options.Mode.TheVariants.{Cost, Opt, Run}
+use Rattle.command_words.specs.declared.options.CoreWord.{CoreWord}
+use Rattle.command_words.specs.declared.options.CoreWord.TheVariants.{Plain, File}
+use Rattle.command_words.specs.declared.options.Options.{Options}
+use Rattle.command_words.specs.declared.options.TheConstants.{LATENCY, MOST_STALLS, TURNS_UNSAID}
+use Rattle.command_words.specs.Answer.{WrongUse, wrong_use}
+use Rattle.command_words.specs.Saying.{said_by}
+use Rattle.command_words.specs.Table.{Text, suits}
+
+-- ---- single values
+
+-- a number from one to another
+abbrev pub within : ℕ → ℕ → Option ℕ → Result ℕ WrongUse
+within least most None = Err wrong_use
+within least most (Some n) =
+    if nat_le least n then (if nat_le n most then Ok n else Err wrong_use) else Err wrong_use
+
+-- the number that a word spells, from one to another
+unfoldable pub number_in : ℕ → ℕ → Text → Result ℕ WrongUse
+number_in least most word = within least most (decimal_number word)
+
+-- the same, or another number where nothing is said
+abbrev pub number_or : ℕ → ℕ → Option Text → Result ℕ WrongUse
+number_or unsaid most None = Ok unsaid
+number_or unsaid most (Some word) = number_in 0 most word
+
+-- the name of a file: neither empty nor `-`
+unfoldable pub file_name : Text → Result Text WrongUse
+file_name word =
+    if length word == 0 then Err wrong_use
+    else (if bytes_eq word (codes "-") then Err wrong_use else Ok word)
+
+-- a core by its latency
+abbrev pub plain_core : Text → Result CoreWord WrongUse
+plain_core digits = do
+  latency ← number_in 1 LATENCY digits
+  Ok (Plain latency)
+
+-- a core by the name of its file
+abbrev pub file_core : Text → Result CoreWord WrongUse
+file_core word = do
+  name ← file_name word
+  Ok (File name)
+
+-- a core: `one:` and a latency, or the name of a file
+unfoldable pub core_named : Text → Result CoreWord WrongUse
+core_named word =
+    if starts_with nat_eq word (codes "one:") then plain_core (drop 4 word) else file_core word
+
+-- a letter, a digit or `_`
+abbrev pub is_label_byte : ℕ → Bool
+is_label_byte c = is_ascii_alphanumeric c || c == 95
+
+-- a letter or `_`, then letters, digits or `_`
+unfoldable pub is_label : Text → Bool
+is_label [] = false
+is_label (c ∷ rest) =
+    if is_ascii_alphabetic c || c == 95 then list_all is_label_byte rest else false
+
+-- a label, or another one where nothing is said
+abbrev pub label_or : Text → Option Text → Result Text WrongUse
+label_or unsaid None = Ok unsaid
+label_or unsaid (Some word) = if is_label word then Ok word else Err wrong_use
+
+-- ---- lists of registers
+
+-- Has a bank registers that lists name by their numbers?
+abbrev pub is_listed_bank : Bank → Bool
+is_listed_bank General = true
+is_listed_bank Vector = true
+is_listed_bank Flags = false
+is_listed_bank Stack = false
+
+-- a general or a vector register
+abbrev pub numbered : Option Reg → Result Reg WrongUse
+numbered None = Err wrong_use
+numbered (Some r) = if is_listed_bank r.bank then Ok r else Err wrong_use
+
+-- the register that a name of a list names: `flags`, or one of `x0` to `x30` and `v0` to `v31`
+unfoldable pub listed_register : Text → Result Reg WrongUse
+listed_register name =
+    if bytes_eq name (codes "flags") then Ok (register_in Flags 0)
+    else numbered (register_named Arm64 name)
+
+-- the registers that names name
+unfoldable pub listed_registers : List Text → Result (List Reg) WrongUse
+listed_registers [] = Ok []
+listed_registers (name ∷ names) = do
+  r ← listed_register name
+  regs ← listed_registers names
+  Ok (r ∷ regs)
+
+-- the set of registers that names name, between commas
+abbrev pub set_listed : Text → Result RegSet WrongUse
+set_listed word = do
+  regs ← listed_registers (slice_split (λ c. c == 44) word)
+  Ok (set_of regs)
+
+-- the set of a list of registers, which may be `none`
+unfoldable pub register_set : Text → Result RegSet WrongUse
+register_set word = if bytes_eq word (codes "none") then Ok (set_of []) else set_listed word
+
+-- ---- what is said of each name
+
+-- the mode of a name
+abbrev pub mode_named : Text → Result Mode WrongUse
+mode_named word =
+    if bytes_eq word (codes "cost") then Ok Cost
+    else (if bytes_eq word (codes "opt") then Ok Opt
+    else (if bytes_eq word (codes "run") then Ok Run else Err wrong_use))
+
+-- the mode
+unfoldable pub mode_of : Option Text → Result Mode WrongUse
+mode_of None = Err wrong_use
+mode_of (Some word) = mode_named word
+
+-- a mode that takes what is said, and has what it needs
+unfoldable pub suited : (Text → Option Text) → Mode → Result Mode WrongUse
+suited look mode = if suits mode look then Ok mode else Err wrong_use
+
+-- The one architecture is `arm64`.
+unfoldable pub architecture : Option Text → Result Unit WrongUse
+architecture None = Ok tt
+architecture (Some word) = if bytes_eq word (codes "arm64") then Ok tt else Err wrong_use
+
+-- the input: a word that isn't empty
+unfoldable pub input_of : Option Text → Result Text WrongUse
+input_of None = Err wrong_use
+input_of (Some word) = if length word == 0 then Err wrong_use else Ok word
+
+-- the core, where one is said
+unfoldable pub core_of : Option Text → Result (Option CoreWord) WrongUse
+core_of None = Ok None
+core_of (Some word) = do
+  core ← core_named word
+  Ok (Some core)
+
+-- the state file, where one is said
+unfoldable pub state_of : Option Text → Result (Option Text) WrongUse
+state_of None = Ok None
+state_of (Some word) = do
+  name ← file_name word
+  Ok (Some name)
+
+-- two labels that differ
+abbrev pub two_labels : Text → Text → Result (Text × Text) WrongUse
+two_labels start end = if bytes_eq start end then Err wrong_use else Ok (start, end)
+
+-- the labels at the start and at the end of the region
+unfoldable pub labels_of : Option Text → Option Text → Result (Text × Text) WrongUse
+labels_of first last = do
+  start ← label_or (codes "slothy_start") first
+  end ← label_or (codes "slothy_end") last
+  two_labels start end
+
+-- the registers that live on, where they are said
+unfoldable pub live_of : Option Text → Result (Option RegSet) WrongUse
+live_of None = Ok None
+live_of (Some word) = do
+  set ← register_set word
+  Ok (Some set)
+
+-- the registers that are free: none where nothing is said
+unfoldable pub free_of : Option Text → Result RegSet WrongUse
+free_of None = Ok (set_of [])
+free_of (Some word) = register_set word
+
+-- ---- the command
+
+-- the mode that words say, where everything beside it suits it
+unfoldable pub mode_by : (Text → Option Text) → Result Mode WrongUse
+mode_by look = do
+  mode ← mode_of (look (codes "MODE"))
+  arch ← architecture (look (codes "arch"))
+  suited look mode
+
+-- the files: the input, the core and the state
+unfoldable pub files_by : (Text → Option Text)
+    → Result (Text × Option CoreWord × Option Text) WrongUse
+files_by look = do
+  input ← input_of (look (codes "INPUT"))
+  core ← core_of (look (codes "core"))
+  state ← state_of (look (codes "state"))
+  Ok (input, core, state)
+
+-- the registers: those that live on, and those that are free
+unfoldable pub registers_by : (Text → Option Text) → Result (Option RegSet × RegSet) WrongUse
+registers_by look = do
+  live ← live_of (look (codes "live"))
+  free ← free_of (look (codes "free"))
+  Ok (live, free)
+
+-- the numbers: the most stalls, and the most turns
+unfoldable pub numbers_by : (Text → Option Text) → Result (ℕ × ℕ) WrongUse
+numbers_by look = do
+  stalls ← number_or STALLS MOST_STALLS (look (codes "max-stalls"))
+  turns ← number_or TURNS_UNSAID TURNS (look (codes "turns"))
+  Ok (stalls, turns)
+
+-- what is asked for by what is said of each name
+unfoldable pub options_of : (Text → Option Text) → Result Options WrongUse
+options_of look = do
+  mode ← mode_by look
+  files ← files_by look
+  labels ← labels_of (look (codes "start")) (look (codes "end"))
+  registers ← registers_by look
+  numbers ← numbers_by look
+  Ok (record {
+    mode = mode;
+    input = files.0;
+    core = files.1;
+    start = labels.0;
+    end = labels.1;
+    live = registers.0;
+    free = registers.1;
+    most = numbers.0;
+    state = files.2;
+    turns = numbers.1;
+  })
+
+-- what a command's words ask for, or wrong use
+unfoldable pub command_of : List Text → Result Options WrongUse
+command_of words = do
+  look ← said_by words
+  options_of look

@@ -1,0 +1,67 @@
+-- What the bytes of the files hold: a text, a region, a state. Source: the format of each file, in the
+-- order of its refusals.
+use Rattle.std.specs.Prelude.{ℕ, List, Option, None, Some, Result, Ok, Err}
+use Rattle.sl_model.specs.declared.instruction.Instr.{Instr}
+use Rattle.sl_model.specs.declared.text.CutRefusal.TheVariants as cuts
+use Rattle.sl_model.specs.ResultSteps.{◌>>=◌}
+use Rattle.sl_model.specs.Text.{bad_line}
+use Rattle.sl_isa.specs.Language.{Language}
+use Rattle.asm_reader.specs.declared.reasons.Reason as reading
+use Rattle.asm_reader.specs.declared.reasons.Reason.TheVariants as why
+use Rattle.asm_reader.specs.declared.reasons.Refusal.{Refusal}
+use Rattle.asm_reader.specs.Reading.{Region, text_region}
+use Rattle.state_text.specs.Running.{run_text}
+use Rattle.slothy_cli.specs.declared.stop.Reason.TheVariants as reasons
+use Rattle.slothy_cli.specs.declared.stop.Quantity.TheVariants as quantities
+use Rattle.slothy_cli.specs.declared.stop.Stop.{Stop}
+use Rattle.slothy_cli.specs.declared.stop.Stop.TheVariants.{Refused, TooLarge}
+use Rattle.slothy_cli.specs.declared.stop.File.{File}
+use Rattle.slothy_cli.specs.declared.stop.File.TheVariants as files
+use Rattle.slothy_cli.specs.Command.{Command, wants_of}
+
+-- the bytes of a file, unless a line of it is bad: it holds what is no character
+abbrev pub text_or : File → List ℕ → Option ℕ → Result (List ℕ) Stop
+text_or file bytes None = Ok bytes
+text_or file bytes (Some line) = Err (Refused file line reasons.NotText)
+
+-- the bytes as a text, which is UTF-8
+abbrev pub text_from : File → List ℕ → Result (List ℕ) Stop
+text_from file bytes = text_or file bytes (bad_line bytes)
+
+-- why a text gives no region, as a reason to stop
+abbrev pub stop_at : ℕ → reading.Reason → Stop
+stop_at line (why.Cut cuts.NoStart) = Refused files.Input line reasons.NoStart
+stop_at line (why.Cut cuts.NoEnd) = Refused files.Input line reasons.NoEnd
+stop_at line (why.Cut (cuts.Twice second)) = Refused files.Input line reasons.Twice
+stop_at line (why.Form form) = Refused files.Input line (reasons.Form form)
+stop_at line why.TagBad = Refused files.Input line reasons.TagBad
+stop_at line why.SymbolUnset = Refused files.Input line reasons.SymbolUnset
+stop_at line why.NotYet = Refused files.Input line reasons.NotYet
+stop_at line (why.TooMany limit) = TooLarge files.Input line quantities.Items limit
+
+-- a region, or its refusal as a reason to stop
+abbrev pub region_or : Result Region Refusal → Result Region Stop
+region_or (Ok region) = Ok region
+region_or (Err refusal) = Err (stop_at refusal.line refusal.reason)
+
+-- the region of a text, between the markers of a command
+abbrev pub region_from : Language → Command → List ℕ → Result Region Stop
+region_from language c text =
+    region_or (text_region language (wants_of c.task) c.start c.end text)
+
+-- the region of a command's file with these bytes
+unfoldable pub file_region : Language → Command → List ℕ → Result Region Stop
+file_region language c bytes = do
+  text ← text_from files.Input bytes
+  region_from language c text
+
+-- the text that a run leaves, or the first bad line of the state file
+abbrev pub state_or : Result (List ℕ) ℕ → Result (List ℕ) Stop
+state_or (Ok text) = Ok text
+state_or (Err line) = Err (Refused files.State line reasons.StateBad)
+
+-- what a run answers to the items of a region and the bytes of the state file
+unfoldable pub run_answer : Language → List Instr → List ℕ → Result (List ℕ) Stop
+run_answer language items bytes = do
+  text ← text_from files.State bytes
+  state_or (run_text language.isa items text)

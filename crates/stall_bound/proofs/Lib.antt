@@ -1,0 +1,5 @@
+pub mod Folds
+pub mod HeightLemmas
+pub mod NeedLemmas
+pub mod RecountLemmas
+pub mod SlotLemmas

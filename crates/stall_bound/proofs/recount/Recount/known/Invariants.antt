@@ -1,0 +1,15 @@
+use Rattle.std.proofs.Common.{◌≡◌, ◌+◌, ◌*◌, ◌≤◌, List, drop, max}
+use Rattle.sl_model.specs.declared.schedule.Choice.{Choice}
+use Rattle.sl_model.specs.Legal.{sources_in}
+use Rattle.search_space.specs.Bound.{known_from}
+use Rattle.stall_bound.specs.Recounts.{Recounts}
+use Rattle.stall_bound.proofs.recount.Recount.known.Given as goal
+
+-- what is placed is ready by the latest of what was seen and of what is left
+abbrev pub invariant-loop-operand : goal.invariant-loop-operand
+invariant-loop-operand l = record {
+  known : (done : List Choice) → Recounts l.problem done l.self →
+      max l.known (known_from l.problem done l.item l.operand (drop l.operand (sources_in l.problem l.item)))
+      ≡ known_from l.problem done l.item 0 (sources_in l.problem l.item);
+  soon : l.known ≤ 512 * l.self.placed + 255;
+}
