@@ -11,12 +11,12 @@ use Rattle.sl_isa.specs.Symbols.{Pair}
 use Rattle.asm_printer.specs.Lines as reading
 use Rattle.asm_printer.specs.declared.plan.Head.{Head}
 use Rattle.asm_printer.specs.Printed.{head_note, numbered, named, word_if, tag_name, marks_note, item_note, entries}
-use Rattle.asm_reader.specs.Notes.{NoteValue, is_tag, is_unit}
+use Rattle.asm_reader.specs.Notes.{NoteValue, is_tag}
 use Rattle.asm_printer.proofs.Concrete.{spelled-printed}
 use Rattle.asm_reader.specs.Regions.{is_right_unit}
 use Rattle.std.specs.Char.{is_ascii_alphabetic}
 use Rattle.std.proofs.lemmas.Bool.Decides.{nat_tests}
-use Rattle.sl_model.specs.Token.{is_word_byte}
+use Rattle.sl_model.specs.Token.{is_word_byte, is_unit_name}
 
 -- notes end no line
 
@@ -80,7 +80,7 @@ tag-inside (c ∷ text) h =
     let both = both-pass (is_word_byte c) (list_all is_word_byte text) h in
     and_from (reading.is_inside_line c) (list_all reading.is_inside_line text) (word-inside c both.0) (words-inside text both.1)
 
-unit-inside : (text : List ℕ) → is_unit text ≡ true → list_all reading.is_inside_line text ≡ true
+unit-inside : (text : List ℕ) → is_unit_name text ≡ true → list_all reading.is_inside_line text ≡ true
 unit-inside [] h = refl
 unit-inside (c ∷ text) h =
     let first = both-pass (is_ascii_alphabetic c) (if list_all is_word_byte text then nat_lt (length text) 16 else false) h in

@@ -8,9 +8,9 @@ use Rattle.sl_model.specs.Digits.{decimal_number}
 use Rattle.sl_model.specs.OptionSteps.{◌>>=◌}
 use Rattle.sl_model.specs.Text.{is_blank}
 use Rattle.sl_laws.proofs.Digits.{decimal-is_read}
-use Rattle.asm_reader.specs.Notes.{Word, Remark, of_item, of_region, words_in, word_of, is_some_text, is_number_text, is_tag, is_unit, is_item_word, all_named_once, says, remark_of, words_said, value_of, note_said, tag_in, mask_in}
+use Rattle.asm_reader.specs.Notes.{Word, Remark, of_item, of_region, words_in, word_of, is_some_text, is_number_text, is_tag, is_item_word, all_named_once, says, remark_of, words_said, value_of, note_said, tag_in, mask_in}
 use Rattle.sl_model.specs.Digits.{digits_number}
-use Rattle.sl_model.specs.Token.{is_word_byte}
+use Rattle.sl_model.specs.Token.{is_word_byte, is_unit_name}
 use Rattle.std.specs.Char.{is_ascii_alphabetic}
 use Rattle.std.proofs.lemmas.Fmt.{decimal_by_steps}
 use Rattle.std.proofs.lemmas.Bool.Decides.{nat_tests}
@@ -130,7 +130,7 @@ right_tag None = true
 right_tag (Some name) = is_tag name
 
 -- What they say of an instruction.
-pub words_say : (number : ℕ) (item unit cycle line : List ℕ) (tag : Option (List ℕ)) (early late : Bool) → is_number_text item ≡ true → is_unit unit ≡ true → is_number_text cycle ≡ true
+pub words_say : (number : ℕ) (item unit cycle line : List ℕ) (tag : Option (List ℕ)) (early late : Bool) → is_number_text item ≡ true → is_unit_name unit ≡ true → is_number_text cycle ≡ true
     → is_number_text line ≡ true → right_tag tag ≡ true → early && late ≡ false
     → words_said number (all_words item unit cycle line tag early late) ≡ Some (of_item (remark_of number (all_words item unit cycle line tag early late)))
 unfolding all_named_once
@@ -138,7 +138,7 @@ words_say number item unit cycle line tag early late hi hu hc hl ht e =
     let marks = tag_words tag (flag_words early late) in
     let words = all_words item unit cycle line tag early late in
     ap (λ b. cond (b && all_named_once words) (cond (says (codes "may_early") words && says (codes "may_late") words) None (Some (of_item (remark_of number words)))) None)
-    (ap (λ b. b && (is_unit unit && (is_number_text cycle && (is_number_text line && list_all is_item_word marks)))) hi
+    (ap (λ b. b && (is_unit_name unit && (is_number_text cycle && (is_number_text line && list_all is_item_word marks)))) hi
     ∙ ap (λ b. b && (is_number_text cycle && (is_number_text line && list_all is_item_word marks))) hu
     ∙ ap (λ b. b && (is_number_text line && list_all is_item_word marks)) hc
     ∙ ap (λ b. b && list_all is_item_word marks) hl
@@ -196,7 +196,7 @@ tag_plain (Some (c ∷ text)) h =
     let both = both-pass (is_word_byte c) (list_all is_word_byte text) h in
     and_from (is_plain c) (list_all is_plain text) (word_plain c both.0) (all_plain text both.1)
 
-unit_plain : (text : List ℕ) → is_unit text ≡ true → list_all is_plain text ≡ true
+unit_plain : (text : List ℕ) → is_unit_name text ≡ true → list_all is_plain text ≡ true
 unit_plain [] h = refl
 unit_plain (c ∷ text) h =
     let both = both-pass (is_ascii_alphabetic c) (if list_all is_word_byte text then nat_lt (length text) 16 else false) h in

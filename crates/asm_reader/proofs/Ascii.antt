@@ -7,8 +7,8 @@ use Rattle.std.proofs.lemmas.Bool.{and_parts}
 use Rattle.std.proofs.lemmas.Bool.Decides.{nat_tests}
 use Rattle.std.proofs.lemmas.Str.{IsUtf8-from_ascii, is_utf8-from_IsUtf8}
 use Rattle.std.proofs.Math.Seq.{take-append_seam}
-use Rattle.sl_model.specs.Token.{is_word_byte}
-use Rattle.asm_reader.specs.Notes.{is_tag, is_unit}
+use Rattle.sl_model.specs.Token.{is_word_byte, is_unit_name}
+use Rattle.asm_reader.specs.Notes.{is_tag}
 
 word_byte_small : (c : ℕ) → is_word_byte c ≡ true → c < 128
 word_byte_small c h = grind (arith, nat_tests)
@@ -39,7 +39,7 @@ tag_text (c ∷ text) h =
     IsUtf8-from_ascii (c ∷ text) (ascii_more c text (word_byte_small c both.0) (all_ascii text both.1))
 
 -- and so is the name of a unit, of at most 16 bytes
-pub unit_name_text : (text : List ℕ) → is_unit text ≡ true → IsUtf8 text
+pub unit_name_text : (text : List ℕ) → is_unit_name text ≡ true → IsUtf8 text
 unit_name_text [] h = cc
 unit_name_text (c ∷ text) h =
     let first = both_pass (is_ascii_alphabetic c) (cond (list_all is_word_byte text) (nat_lt (length text) 16) false) h in
@@ -49,7 +49,7 @@ unit_name_text (c ∷ text) h =
 below_sixteen : (n : ℕ) → nat_lt n 16 ≡ true → suc n ≤ 16
 below_sixteen n h = grind (arith, nat_tests)
 
-pub unit_name_short : (text : List ℕ) → is_unit text ≡ true → length text ≤ 16
+pub unit_name_short : (text : List ℕ) → is_unit_name text ≡ true → length text ≤ 16
 unit_name_short [] h = cc
 unit_name_short (c ∷ text) h =
     let first = both_pass (is_ascii_alphabetic c) (cond (list_all is_word_byte text) (nat_lt (length text) 16) false) h in

@@ -1,7 +1,8 @@
 -- What the note of a statement says is right: its tag, its unit and its marks.
 use Rattle.std.proofs.Common.{◌≡◌, ℕ, Bool, true, false, cond, ◌&&◌, List, [], ◌∷◌, codes, Option, None, Some, option_and_then, Ok, refl, subst}
 use Rattle.std.specs.List.{list_all}
-use Rattle.asm_reader.specs.Notes.{Word, Remark, Said, of_item, of_region, is_tag, is_unit, tag_from, unit_from, value_of, says, remark_of, mask_in, words_in, begins_region, is_region_word, is_item_word, all_named_once, region_said, item_said, words_said, note_said}
+use Rattle.sl_model.specs.Token.{is_unit_name}
+use Rattle.asm_reader.specs.Notes.{Word, Remark, Said, of_item, of_region, is_tag, tag_from, unit_from, value_of, says, remark_of, mask_in, words_in, begins_region, is_region_word, is_item_word, all_named_once, region_said, item_said, words_said, note_said}
 use Rattle.asm_reader.specs.Reading.{right_note, said_by}
 use Rattle.asm_reader.specs.Regions.{is_right_unit}
 
@@ -30,13 +31,13 @@ right_tag : (o : Option (List ℕ)) → is_right_name (option_and_then tag_from 
 right_tag None = refl
 right_tag (Some text) = right_tag_from text (is_tag text) refl
 
-right_unit_from : (text : List ℕ) (b : Bool) → is_unit text ≡ b → is_right_unit (cond b (Some text) None) ≡ true
+right_unit_from : (text : List ℕ) (b : Bool) → is_unit_name text ≡ b → is_right_unit (cond b (Some text) None) ≡ true
 right_unit_from text true e = e
 right_unit_from text false e = refl
 
 right_unit : (o : Option (List ℕ)) → is_right_unit (option_and_then unit_from o) ≡ true
 right_unit None = refl
-right_unit (Some text) = right_unit_from text (is_unit text) refl
+right_unit (Some text) = right_unit_from text (is_unit_name text) refl
 
 right_remark : (line : ℕ) (words : List Word) → (says (codes "may_early") words && says (codes "may_late") words) ≡ false → IsRightRemark (remark_of line words)
 right_remark line words e = record {

@@ -1,13 +1,12 @@
 -- What a note says, which is a comment that begins with `// @slothy:`. Source: this project's own
 -- format.
 use Rattle.std.specs.Prelude.{ℕ, ◌+◌, ◌^◌, ◌==◌, ◌&&◌, Bool, true, false, not, nat_lt, nat_le, List, [], ◌∷◌, length, take, drop, map, filter, codes, is_some, Option, None, Some, if◌then◌else◌}
-use Rattle.std.specs.Char.{is_ascii_alphabetic}
 use Rattle.std.specs.List.{list_any, list_all, prefix_len, slice_split}
 use Rattle.std.specs.Str.{str_eq_ignore_ascii_case}
 use Rattle.sl_model.specs.Digits.{decimal_number}
 use Rattle.sl_model.specs.OptionSteps.{◌>>=◌}
 use Rattle.sl_model.specs.Text.{is_blank}
-use Rattle.sl_model.specs.Token.{is_word_byte}
+use Rattle.sl_model.specs.Token.{is_word_byte, is_unit_name}
 use Rattle.asm_reader.specs.declared.words.Shape.{Shape}
 use Rattle.asm_reader.specs.declared.words.Shape.TheVariants as shapes
 use Rattle.asm_reader.specs.declared.words.Part.{Part}
@@ -61,14 +60,6 @@ abbrev pub is_tag : List ℕ → Bool
 is_tag [] = false
 is_tag (c ∷ text) = if is_word_byte c then list_all is_word_byte text else false
 
--- the name of a unit: a letter, then letters, digits or `_`, and at most 16 bytes in all
-abbrev pub is_unit : List ℕ → Bool
-is_unit [] = false
-is_unit (c ∷ text) =
-    if is_ascii_alphabetic c then
-    (if list_all is_word_byte text then nat_lt (length text) 16 else false)
-    else false
-
 -- a decimal number of at most 128 bits
 abbrev pub is_number_text : List ℕ → Bool
 is_number_text text = is_some (decimal_number text >>= λ n. if nat_lt n (2 ^ 128) then Some n else None)
@@ -86,7 +77,7 @@ abbrev pub suits : Shape → List ℕ → Bool
 suits shapes.Flag text = false
 suits shapes.Number text = is_number_text text
 suits shapes.Tag text = is_tag text
-suits shapes.Unit text = is_unit text
+suits shapes.Unit text = is_unit_name text
 suits shapes.Part text = is_among part_names text
 suits shapes.Kind text = is_among kind_names text
 
@@ -164,7 +155,7 @@ tag_from text = if is_tag text then Some text else None
 
 -- a text as the name of a unit, where it is one
 abbrev pub unit_from : List ℕ → Option (List ℕ)
-unit_from text = if is_unit text then Some text else None
+unit_from text = if is_unit_name text then Some text else None
 
 -- a number, and the greatest where it is above that
 abbrev pub at_most : ℕ → ℕ → ℕ

@@ -8,10 +8,11 @@ use Rattle.sl_model.specs.Exec.{has_access}
 use Rattle.sl_model.specs.Isa.{Isa}
 use Rattle.sl_model.specs.Lawful.{AreValid}
 use Rattle.sl_model.specs.Source.{item_at, list_sources}
+use Rattle.sl_model.specs.Token.{is_unit_name}
 use Rattle.sl_isa.specs.Language.{Language, IsNamed, AreSpelled}
 use Rattle.sl_isa.specs.Symbols.{Pair}
 use Rattle.asm_reader.specs.declared.reasons.Wants.{Wants}
-use Rattle.asm_reader.specs.Notes.{NoteValue, is_tag, is_unit}
+use Rattle.asm_reader.specs.Notes.{NoteValue, is_tag}
 use Rattle.asm_reader.specs.Reading.{Region}
 
 -- Each register of each item of a list is the machine's, or has the number of a pair of its bank.
@@ -37,7 +38,7 @@ is_marked_right isa count i =
 -- Is there no unit, or a name of one?
 abbrev pub is_right_unit : Option (List ℕ) → Bool
 is_right_unit None = true
-is_right_unit (Some unit) = is_unit unit
+is_right_unit (Some unit) = is_unit_name unit
 
 -- Items of a region are few enough, are instructions of the set, and were read. Their symbolic
 -- registers are named, and none is read before it is written. Their tags are named, and there is a

@@ -8,9 +8,10 @@ ghost use Rattle.asm_reader.specs.Notes as spec;
 
 use crate::unit_name::UnitName;
 use crate::words::{
-    Part, Word, are_item_words, are_named_once, are_region_words, is_tag, is_unit, number_in,
-    part_of, says, value_of, words_in,
+    Part, Word, are_item_words, are_named_once, are_region_words, is_tag, number_in, part_of, says,
+    value_of, words_in,
 };
+use sl_text::is_unit_name;
 use std::alloc::{AllocError, Global};
 
 /// What a printed region tells of an instruction.
@@ -104,7 +105,7 @@ fn tag_from(text: &[u8]) -> Option<&str>
 fn unit_from(text: &[u8]) -> Option<UnitName>
     ensures { option_map unit_text result ≡ spec.unit_from text.now }
 {
-    if !is_unit(text) {
+    if !is_unit_name(text) {
         return None;
     }
     match str::from_utf8(text) {

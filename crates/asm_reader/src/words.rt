@@ -2,11 +2,10 @@
 ghost use Rattle.std.specs.Prelude.{◌≡◌, map, IfOk};
 ghost use Rattle.std.specs.List.{list_all, list_any, slice_split};
 ghost use Rattle.sl_model.specs.Text.{is_blank};
-ghost use Rattle.sl_model.specs.Token.{is_word_byte};
 ghost use Rattle.asm_reader.specs.WordViews.{bytes_value, word_value, word_values};
 ghost use Rattle.asm_reader.specs.Notes as spec;
 
-use sl_text::{Numeral, decimal_value};
+use sl_text::{Numeral, are_word_bytes, decimal_value, is_unit_name, is_word_byte};
 use std::alloc::{AllocError, Global};
 
 /// Where an instruction stands in a printed region.
@@ -55,13 +54,6 @@ fn is_blank(byte: u8) -> bool
     byte == b' ' || byte == b'\t'
 }
 
-// Whether a byte is a letter, a digit or `_`.
-fn is_word_byte(byte: u8) -> bool
-    ensures { result ≡ is_word_byte byte }
-{
-    byte.is_ascii_alphanumeric() || byte == b'_'
-}
-
 // How many bytes stand before the first `=`.
 fn name_length(text: &[u8]) -> usize
     ensures { result ≡ spec.name_length text.now }
@@ -108,13 +100,6 @@ pub(crate) fn words_in<'a>(alloc: Global, text: &'a [u8]) -> Result<Vec<Word<'a>
     Ok(words)
 }
 
-// Whether a text has letters, digits and `_` alone.
-fn are_word_bytes(text: &[u8]) -> bool
-    ensures { result ≡ list_all is_word_byte text.now }
-{
-    text.iter().all(|byte| is_word_byte(*byte))
-}
-
 /// Whether a text is a tag.
 pub(crate) fn is_tag(text: &[u8]) -> bool
     ensures { result ≡ spec.is_tag text.now }
@@ -126,22 +111,6 @@ pub(crate) fn is_tag(text: &[u8]) -> bool
         return false;
     }
     are_word_bytes(rest)
-}
-
-/// Whether a text is a name of a unit.
-pub(crate) fn is_unit(text: &[u8]) -> bool
-    ensures { result ≡ spec.is_unit text.now }
-{
-    let Some((first, rest)) = text.split_first() else {
-        return false;
-    };
-    if !first.is_ascii_alphabetic() {
-        return false;
-    }
-    if !are_word_bytes(rest) {
-        return false;
-    }
-    rest.len() < 16
 }
 
 // Whether a text is a decimal number of at most 128 bits.
@@ -182,7 +151,7 @@ fn suits(shape: Shape, text: &[u8]) -> bool
         Shape::Flag => false,
         Shape::Number => is_number_text(text),
         Shape::Tag => is_tag(text),
-        Shape::Unit => is_unit(text),
+        Shape::Unit => is_unit_name(text),
         Shape::Part => is_part_name(text),
         Shape::Kind => is_kind_name(text),
     }

@@ -1,7 +1,6 @@
 //! Symbolic registers as tokens spell them: a letter of registers, and directly behind it a word in
 //! angle brackets, its name.
 ghost use Rattle.std.specs.Prelude.{◌≡◌, ◌≤◌, ◌+◌, IfOk, OnOk, MatchOption, None, Some, length, take};
-ghost use Rattle.std.specs.List.{list_all};
 ghost use Rattle.sl_model.specs.Token as words;
 ghost use Rattle.sl_text.specs.Tokens.{token_value};
 ghost use Rattle.sl_isa.specs.Symbols.{with_pairs};
@@ -12,7 +11,7 @@ ghost use Rattle.form_table.specs.Symbols as spec;
 use crate::rows::Letter;
 use sl_base::NoMemory;
 use sl_isa::{Bank, Symbols};
-use sl_text::Token;
+use sl_text::{Token, are_word_bytes};
 use std::alloc::Global;
 
 /// A symbolic register: its letter and its name.
@@ -81,20 +80,6 @@ fn begins_word(byte: u8) -> bool
     ensures { result ≡ words.begins_word byte }
 {
     byte.is_ascii_alphabetic() || byte == b'_'
-}
-
-// Whether a byte may stand in a word.
-fn is_word_byte(byte: u8) -> bool
-    ensures { result ≡ words.is_word_byte byte }
-{
-    byte.is_ascii_alphanumeric() || byte == b'_'
-}
-
-// Whether a text has letters, digits and `_` alone.
-fn are_word_bytes(text: &[u8]) -> bool
-    ensures { result ≡ list_all words.is_word_byte text.now }
-{
-    text.iter().all(|byte| is_word_byte(*byte))
 }
 
 // Whether a text is a word.

@@ -1,9 +1,10 @@
 -- What the issue rule gives: the next cycle meets its four conditions, no smaller cycle does, and it isn't later than
 -- when all is free and ready.
-use Rattle.std.proofs.Common.{◌≡◌, ℕ, suc, ◌+◌, ◌<◌, ◌≤◌, Bool, true, false, nat_lt, eqb, List, [], ◌∷◌, ◌++◌, length, max, if◌then◌else◌, refl, sym, ◌∙◌, subst, ⊎_elim, zero-add, arith}
+use Rattle.std.proofs.Common.{◌≡◌, ℕ, suc, ◌+◌, ◌<◌, ◌≤◌, Bool, true, false, nat_lt, eqb, List, [], ◌∷◌, ◌++◌, length, take, drop, max, Option, None, Some, IfSome, if◌then◌else◌, refl, sym, ◌∙◌, ap, subst, ⊎_elim, zero-add, arith}
 use Rattle.std.proofs.lemmas.Bool.{cases_Bool, ne_eqb, eq-eqb, eqb-true, eqb-false, ltb-true, ltb-false}
-use Rattle.sl_model.specs.Cycles.{Push, Issued, issued_at, first_slot, unit_free, next_cycle, last_cycle, MayIssue, issue, issued_from, cycle_count}
-use Rattle.issue_cost.specs.Timeline.{IsFreeBy}
+use Rattle.std.proofs.lemmas.List.{take-append-drop, take-append-le, length-take-le}
+use Rattle.sl_model.specs.Cycles.{Push, Issued, issued_at, first_slot, unit_free, next_cycle, last_cycle, MayIssue, issue, issued_from, issued, cycle_count}
+use Rattle.issue_cost.specs.Timeline.{IsFreeBy, start_from}
 use Rattle.issue_cost.specs.Tallies.{NoneAfter}
 
 -- what is at most a number is at most a greater one
@@ -181,3 +182,57 @@ cycle_count-last (i ∷ done) some = refl
 pub cycle_count-none : (done : List Issued) → length done ≡ 0 → 0 ≡ cycle_count done
 cycle_count-none [] none = refl
 cycle_count-none (i ∷ done) none = absurd (omega arith)
+
+-- pushes are issued one part behind the other
+pub issued_from-append : (done : List Issued) (first rest : List Push) → issued_from done (first ++ rest) ≡ issued_from (issued_from done first) rest
+unfolding issued_from
+issued_from-append done [] rest = refl
+issued_from-append done (p ∷ first) rest = issued_from-append (issue p done ∷ done) first rest
+
+-- what is issued is what the first pushes give, with the others behind them
+pub issued-parts : (place : ℕ) (pushes : List Push) → issued pushes ≡ issued_from (issued (take place pushes)) (drop place pushes)
+issued-parts place pushes =
+    ap (λ all. issued_from [] all) (sym (take-append-drop place pushes))
+    ∙ issued_from-append [] (take place pushes) (drop place pushes)
+
+-- what is free by a cycle with more pushes was free by it before them
+pub IsFreeBy-before : (limit : ℕ) (done : List Issued) (pushes : List Push) → IsFreeBy limit (issued_from done pushes) → IsFreeBy limit done
+unfolding issued_from
+IsFreeBy-before limit done [] by = by
+IsFreeBy-before limit done (p ∷ pushes) by = (IsFreeBy-before limit (issue p done ∷ done) pushes by).2
+
+-- no more cycles are taken than until all is free
+pub cycle_count-within : (limit : ℕ) (done : List Issued) → IsFreeBy limit done → cycle_count done ≤ limit
+cycle_count-within limit [] by = omega arith
+cycle_count-within limit (i ∷ done) by = by.0
+
+-- nothing is waited for where there is no break
+pub start-none : (pushes : List Push) → start_from pushes None ≡ 0
+unfolding start_from
+start-none pushes = refl
+
+-- a second pass begins where the first one ends
+pub start-break : (place : ℕ) (pushes : List Push) → start_from pushes (Some place) ≡ cycle_count (issued (take place pushes))
+unfolding start_from
+start-break place pushes = refl
+
+-- a pass begins no later than when all is free
+pub start-within : (limit : ℕ) (pushes : List Push) (pass : Option ℕ) → IsFreeBy limit (issued pushes) → start_from pushes pass ≤ limit
+unfolding start_from
+start-within limit pushes None by = omega arith
+start-within limit pushes (Some place) by =
+    cycle_count-within limit (issued (take place pushes))
+    (IsFreeBy-before limit (issued (take place pushes)) (drop place pushes) (subst (IsFreeBy limit) (issued-parts place pushes) by))
+
+-- one more push moves no start
+pub start-more : (pushes : List Push) (p : Push) (pass : Option ℕ) → IfSome pass (λ place. place ≤ length pushes) → start_from (pushes ++ p ∷ []) pass ≡ start_from pushes pass
+unfolding start_from
+start-more pushes p None within = refl
+start-more pushes p (Some place) within = ap (λ first. cycle_count (issued first)) (take-append-le place pushes (p ∷ []) within)
+
+-- the first pushes take one cycle more than the last of their cycles
+pub cycle_count-first : (count cycle : ℕ) (pushes : List Push) → 0 < count → count ≤ length pushes → cycle ≡ last_cycle (issued (take count pushes)) → cycle + 1 ≡ cycle_count (issued (take count pushes))
+cycle_count-first count cycle pushes some within last =
+    let len : length (issued (take count pushes)) ≡ 0 + length (take count pushes) = length-issued_from [] (take count pushes) in
+    let first : length (take count pushes) ≡ count = length-take-le count pushes within in
+    ap (λ n. n + 1) last ∙ cycle_count-last (issued (take count pushes)) (omega arith)

@@ -3,3 +3,4 @@ pub mod IssueRule
 pub mod TallyLemmas
 pub mod EntryLemmas
 pub mod SoundRows
+pub mod PassLaws

@@ -2,3 +2,4 @@ pub mod Sound
 pub mod Timeline
 pub mod Tallies
 pub mod Entries
+pub mod Passes

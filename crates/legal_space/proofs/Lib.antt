@@ -2,6 +2,7 @@ pub mod ForCallers
 pub mod LoopSteps
 pub mod PlacedLemmas
 pub mod PlacedSets
+pub mod SecondPassLemmas
 pub mod Standing
 pub mod StraightLemmas
 pub mod TimesLemmas

@@ -1,13 +1,14 @@
 -- A schedule issued choice by choice: when operands are ready, the latest cycle of each item, and one more choice.
-use Rattle.std.proofs.Common.{◌≡◌, ◌≢◌, ℕ, ◌+◌, ◌*◌, ◌<◌, ◌≤◌, true, false, eqb, List, [], ◌∷◌, length, take, drop, reverse, replicate, set, get_or, max, nat_lt, ◌&&◌, IsTrue, EachIndex, refl, sym, ◌∙◌, ap, ap₂, subst, ⊎_elim, arith}
-use Rattle.std.proofs.lemmas.Bool.{cases_Bool, eqb-true, eqb-false, ltb-true, and_parts}
+use Rattle.std.proofs.Common.{◌≡◌, ◌≢◌, ℕ, ◌+◌, ◌*◌, ◌<◌, ◌≤◌, true, false, eqb, List, [], ◌∷◌, length, take, drop, reverse, replicate, set, get_or, None, max, nat_lt, EachIndex, sym, ◌∙◌, ap, ap₂, subst, ⊎_elim, arith}
+use Rattle.std.proofs.lemmas.Bool.{cases_Bool, eqb-true, eqb-false, ltb-true}
 use Rattle.std.proofs.lemmas.List.{drop_all, drop_more, length-set, length-replicate, get_or-set_same, get_or-set_other, get_or-replicate}
 use Rattle.std.specs.List.{list_all}
 use Rattle.std.proofs.lemmas.List.Folds.{list_all_at}
 use Rattle.sl_model.specs.declared.schedule.Choice.{Choice}
 use Rattle.sl_model.specs.declared.schedule.Source.{Source}
 use Rattle.sl_model.specs.Cycles.{CostTable, Issued, timed_from, cycle_of, row_of, ready_at, ready_from, next_cycle}
-use Rattle.sl_model.specs.Legal.{Problem}
+use Rattle.issue_cost.specs.Timeline.{Timeline, start_from, start_of}
+use Rattle.issue_cost.proofs.ForCallers.{start-none}
 use Rattle.legal_space.specs.Timed.{HasCycles}
 use Rattle.sl_laws.proofs.Elements.{reverse_take-more}
 
@@ -84,6 +85,12 @@ early-more cycles next item cycle k early within soon stored = λ q inside.
 -- what is issued for a choice whose operands are ready at a cycle
 abbrev pub next_issued : CostTable → Choice → ℕ → Issued
 next_issued costs c cycle = record { unit = c.unit; busy = (row_of costs c.item).busy; cycle = cycle }
+
+-- where no break was made, operands are waited for alone
+pub ready-unbroken : (t : Timeline) (ready : ℕ) → t.pass ≡ None → max (start_of t) ready ≡ ready
+ready-unbroken t ready unbroken =
+    let start : start_of t ≡ 0 = ap (start_from t.pushes) unbroken ∙ start-none t.pushes in
+    omega arith
 
 timed-first : (costs : CostTable) (sources : ℕ → List Source) (choices : List Choice) (done : List Issued) (rest : List Choice) (c : Choice) (ready cycle : ℕ) → ready ≡ ready_from costs choices done c.item 0 (sources c.item) → cycle ≡ next_cycle costs.width c.unit ready done → timed_from costs sources (c ∷ choices) (next_issued costs c cycle ∷ done) rest ≡ timed_from costs sources choices done (c ∷ rest)
 unfolding timed_from

@@ -1,17 +1,17 @@
 //! When the items of a schedule are issued.
 
-ghost use Rattle.std.specs.Prelude.{◌≡◌, ℕ, ◌+◌, ◌^◌, ◌<◌, ◌≤◌, List, length, nat_lt, slice_index, EachIndex, IfOk, OnOk, IsTrue, replicate, []};
+ghost use Rattle.std.specs.Prelude.{◌≡◌, ◌-◌, ◌≤◌, List, length, nat_lt, IfOk, OnOk, IsTrue, replicate, [], None};
 ghost use Rattle.std.specs.List.{list_all};
-ghost use Rattle.sl_model.specs.declared.schedule.Choice.{Choice};
-ghost use Rattle.sl_model.specs.Cycles.{Issued, issued, ready_at, ready_from, timed, cycles_of, cycle_count, stalls};
+ghost use Rattle.sl_model.specs.Cycles.{Issued, issued, timed, cycles_of, cycle_count, ceil_div, stalls};
 ghost use Rattle.sl_model.specs.Legal.{sources_in};
 ghost use Rattle.sl_model.specs.Space.{stalls_of};
-ghost use Rattle.legal_space.specs.Timed.{is_known_source, HasCycles};
+ghost use Rattle.legal_space.specs.Timed.{IsPassed};
 
 use crate::problem::Problem;
-use issue_cost::{Costs, Issue};
+use crate::ready::ready_among;
+use issue_cost::Issue;
 use sl_base::NoMemory;
-use sl_model::schedule::{Choice, Source};
+use sl_model::schedule::Choice;
 use std::alloc::{AllocError, Global};
 
 /// When the items of a schedule are issued.
@@ -53,9 +53,9 @@ pub fn times_of(alloc: Global, problem: &Problem, schedule: &[Choice]) -> Result
     })
 }
 
-// Issues the choices of a schedule, one after the other, and gives their cycles. `latest` has the
-// cycle of each item that was issued, and 0 for the others.
-fn issue_all(
+/// Issues the choices of a schedule, one after the other, and gives their cycles. `latest` has the
+/// cycle of each item that was issued, and 0 for the others. The only error is want of memory.
+pub fn issue_all(
     alloc: Global,
     problem: &Problem,
     schedule: &[Choice],
@@ -66,7 +66,9 @@ fn issue_all(
     requires known { IsTrue
         (list_all (λ c. nat_lt c.item (length problem.now.graph.items)) schedule.now) }
     requires units { IsTrue (list_all (λ c. nat_lt c.unit 16) schedule.now) }
-    requires empty { issue.old ≡ record { pushes = []; room = length schedule.now } }
+    requires empty { issue.old.pushes ≡ [] }
+    requires unbroken { issue.old.pass ≡ None }
+    requires room { length schedule.now ≤ issue.old.room }
     requires none { latest.old ≡ replicate (length problem.now.graph.items) 0 }
     ensures cycles { IfOk result
         (λ cycles. cycles.items
@@ -74,6 +76,10 @@ fn issue_all(
     ensures issued { OnOk result
         (issued issue.new.pushes ≡ timed problem.now.costs (sources_in problem.now) schedule.now) }
     ensures count { OnOk result (length (issued issue.new.pushes) ≡ length schedule.now) }
+    ensures passed { OnOk result
+        (IsPassed problem.now schedule.now issue.new.pushes latest.new) }
+    ensures unbroken { OnOk result (issue.new.pass ≡ None) }
+    ensures room { OnOk result (issue.new.room ≡ issue.old.room) }
 {
     let costs = problem.costs();
     let mut cycles = Vec::new(alloc);
@@ -87,51 +93,12 @@ fn issue_all(
     Ok(cycles)
 }
 
-/// When all sources of an item's operands are ready, where the items were issued at these cycles.
-fn ready_among(costs: &Costs, cycles: &[u32], item: u16, sources: &[Source]) -> u32
-    requires item { item < length cycles.now }
-    requires rows { length costs.now.rows ≡ length cycles.now }
-    requires few { length sources.now ≤ 256 }
-    requires known { IsTrue (list_all (is_known_source (length cycles.now)) sources.now) }
-    requires early { EachIndex cycles.now (λ q. slice_index cycles.now q ≤ 2 ^ 29) }
-    ensures ready { (choices : List Choice) (done : List Issued) →
-        HasCycles cycles.now choices done
-        → result ≡ ready_from costs.now choices done item 0 sources.now }
-    ensures early { (limit : ℕ) → EachIndex cycles.now (λ q. slice_index cycles.now q ≤ limit)
-        → result ≤ limit + 255 }
-{
-    let mut ready = 0;
-    for (operand, source) in sources.iter().enumerate() {
-        ready = ready_at(costs, cycles, item, operand as u8, *source).max(ready);
-    }
-    ready
-}
-
-/// When a source is ready for an operand of an item, where the items were issued at these cycles.
-fn ready_at(costs: &Costs, cycles: &[u32], item: u16, operand: u8, source: Source) -> u32
-    requires item { item < length cycles.now }
-    requires rows { length costs.now.rows ≡ length cycles.now }
-    requires known { IsTrue (is_known_source (length cycles.now) source) }
-    requires early { EachIndex cycles.now (λ q. slice_index cycles.now q ≤ 2 ^ 29) }
-    ensures ready { (choices : List Choice) (done : List Issued) →
-        HasCycles cycles.now choices done
-        → result ≡ ready_at costs.now choices done item operand source }
-    ensures early { (limit : ℕ) → EachIndex cycles.now (λ q. slice_index cycles.now q ≤ limit)
-        → result ≤ limit + 255 }
-{
-    match source {
-        Source::Entry(_) => 0,
-        Source::Item { index, place } => {
-            cycles[usize::from(index)] + costs.ready_after(index, place, item, operand)
-        }
-    }
-}
-
 /// The cycles that so many items, at most 65536, take beyond those that they fill.
-fn stalls(items: usize, width: u8, cycles: u32) -> u32
+pub fn stalls(items: usize, width: u8, cycles: u32) -> u32
     requires few { items ≤ 65536 }
     requires width { 1 ≤ width }
-    ensures { (done : List Issued) → length done ≡ items → cycle_count done ≡ cycles
+    ensures stalls { result ≡ cycles - ceil_div items width }
+    ensures of_issued { (done : List Issued) → length done ≡ items → cycle_count done ≡ cycles
         → result ≡ stalls width done }
 {
     let width = u32::from(width);

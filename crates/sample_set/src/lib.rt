@@ -3,6 +3,7 @@
 //! architectures and tables ask for can be met.
 #![tactic(auto)]
 
+pub mod cores;
 pub mod failing;
 pub mod forms;
 pub mod lines;

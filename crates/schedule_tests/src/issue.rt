@@ -89,6 +89,7 @@ fn pushed(issue: &mut Issue, costs: &Costs, item: (u16, u8, u32)) -> Option<u32>
     requires rows { length costs.now.rows ≡ 2 }
     ensures len { IfSome result (λ _. length issue.new.pushes ≡ length issue.old.pushes + 1) }
     ensures room { issue.new.room ≡ issue.old.room }
+    ensures pass { issue.new.pass ≡ issue.old.pass }
 {
     let (item, unit, ready) = item;
     if 2 <= item || 16 <= unit || 100 <= ready {
@@ -171,5 +172,143 @@ fn items_wait_for_slots_operands_and_units(rt: HostRuntime) -> Failing {
     for case in &CASES {
         failing.check(case.0, is_right(rt.alloc(), case));
     }
+    failing
+}
+
+/// The cycles of two items that are pushed in a second pass, behind two of the first one, and how many cycles all take.
+fn second_cycles_of(
+    alloc: Global,
+    width: u8,
+    first: [(u16, u8, u32); 2],
+    second: [(u16, u8, u32); 2],
+) -> Option<([u32; 2], u32)>
+    requires least { 1 ≤ width }
+    requires most { width ≤ 8 }
+{
+    let costs = Costs::new(alloc, width, &ROWS, &FORWARDS).ok()?;
+    let mut issue = Issue::with_room(alloc, 4).ok()?;
+    pushed(&mut issue, &costs, first[0])?;
+    pushed(&mut issue, &costs, first[1])?;
+    issue.pass_break();
+    let early = pushed(&mut issue, &costs, second[0])?;
+    let late = pushed(&mut issue, &costs, second[1])?;
+    Some(([early, late], issue.cycles()))
+}
+
+/// A name, the width, two items of each pass with their units and when they are ready, the cycles of those of the second one, and how many cycles all take.
+type PassCase = (
+    &'static str,
+    u8,
+    [(u16, u8, u32); 2],
+    [(u16, u8, u32); 2],
+    ([u32; 2], u32),
+);
+
+const PASSES: [PassCase; 4] = [
+    (
+        "a unit that the first pass keeps",
+        2,
+        [(1, 0, 0), (0, 1, 0)],
+        [(1, 0, 0), (0, 1, 0)],
+        ([3, 3], 4),
+    ),
+    (
+        "a slot beside the last item",
+        2,
+        [(0, 0, 0), (0, 1, 5)],
+        [(0, 0, 0), (0, 1, 0)],
+        ([6, 6], 7),
+    ),
+    (
+        "a later operand",
+        1,
+        [(0, 0, 0), (0, 1, 0)],
+        [(0, 0, 4), (0, 1, 0)],
+        ([4, 5], 6),
+    ),
+    (
+        "a full cycle",
+        2,
+        [(0, 0, 3), (0, 1, 3)],
+        [(1, 1, 0), (0, 1, 2)],
+        ([4, 7], 8),
+    ),
+];
+
+/// Has a case the cycles of its second pass?
+fn is_passed(alloc: Global, case: &PassCase) -> bool {
+    let (_, width, first, second, wanted) = *case;
+    1 <= width && width <= 8 && second_cycles_of(alloc, width, first, second) == Some(wanted)
+}
+
+#[test]
+fn a_second_pass_begins_behind_the_first(rt: HostRuntime) -> Failing {
+    let mut failing = Failing::new(rt.alloc());
+    for case in &PASSES {
+        failing.check(case.0, is_passed(rt.alloc(), case));
+    }
+    failing
+}
+
+/// The cycle of one more item on another unit: with a break behind nothing, and with that break undone.
+fn cycles_from_nothing(alloc: Global) -> Option<[u32; 2]> {
+    let costs = Costs::new(alloc, 2, &ROWS, &FORWARDS).ok()?;
+    let mut issue = Issue::with_room(alloc, 2).ok()?;
+    issue.pass_break();
+    let behind = issue.cycle_for(&costs, 1, 0);
+    issue.pop();
+    pushed(&mut issue, &costs, (0, 0, 5))?;
+    Some([behind, issue.cycle_for(&costs, 1, 0)])
+}
+
+#[test]
+fn a_pass_of_nothing_takes_no_cycle(rt: HostRuntime) -> Failing {
+    let mut failing = Failing::new(rt.alloc());
+    failing.check(
+        "from cycle 0 on, then beside an item",
+        cycles_from_nothing(rt.alloc()) == Some([0, 5]),
+    );
+    failing
+}
+
+/// How many items there are, and the cycle of one more on another unit.
+fn outlook(issue: &Issue, costs: &Costs) -> (usize, u32) {
+    (issue.len(), issue.cycle_for(costs, 1, 0))
+}
+
+/// Undoes a push or a break, where there are so many pushes.
+fn undo(issue: &mut Issue, pushes: usize) -> Option<()>
+    requires { 0 < pushes }
+{
+    if issue.len() != pushes {
+        return None;
+    }
+    issue.pop();
+    Some(())
+}
+
+/// What is seen of an item, a break and an item, and as they are undone one after the other.
+fn outlooks(alloc: Global) -> Option<[(usize, u32); 4]> {
+    let costs = Costs::new(alloc, 2, &ROWS, &FORWARDS).ok()?;
+    let mut issue = Issue::with_room(alloc, 2).ok()?;
+    pushed(&mut issue, &costs, (0, 0, 5))?;
+    issue.pass_break();
+    pushed(&mut issue, &costs, (0, 0, 8))?;
+    let whole = outlook(&issue, &costs);
+    undo(&mut issue, 2)?;
+    let broken = outlook(&issue, &costs);
+    undo(&mut issue, 1)?;
+    let unbroken = outlook(&issue, &costs);
+    undo(&mut issue, 1)?;
+    Some([whole, broken, unbroken, outlook(&issue, &costs)])
+}
+
+#[test]
+fn a_push_a_break_and_a_push_are_undone_in_turn(rt: HostRuntime) -> Failing {
+    let mut failing = Failing::new(rt.alloc());
+    failing.check(
+        "the last first",
+        outlooks(rt.alloc()) == Some([(2, 8), (1, 6), (1, 5), (0, 0)]),
+    );
     failing
 }

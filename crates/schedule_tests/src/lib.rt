@@ -19,3 +19,5 @@ mod lines;
 mod problems;
 #[cfg(test)]
 mod search;
+#[cfg(test)]
+mod second_pass;

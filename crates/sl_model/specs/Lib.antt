@@ -15,6 +15,7 @@ pub mod Machine
 pub mod Isa
 pub mod Exec
 pub mod Body
+pub mod SecondPass
 pub mod Lawful
 pub mod Graph
 pub mod Legal

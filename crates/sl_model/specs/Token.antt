@@ -1,8 +1,8 @@
 -- The tokens of a line. A text is the list of its bytes, in UTF-8.
 -- Source: a profile of GNU as; Unicode for what a character is.
-use Rattle.std.specs.Prelude.{ℕ, zero, suc, ◌+◌, ◌-◌, ◌==◌, Bool, true, false, not, ◌&&◌, ◌||◌, nat_eq, List, [], ◌∷◌, length, take, drop, codes, slice_index, if◌then◌else◌}
+use Rattle.std.specs.Prelude.{ℕ, zero, suc, ◌+◌, ◌-◌, ◌==◌, Bool, true, false, not, ◌&&◌, ◌||◌, nat_eq, nat_lt, List, [], ◌∷◌, length, take, drop, codes, slice_index, if◌then◌else◌}
 use Rattle.std.specs.Char.{is_ascii_alphabetic, is_ascii_alphanumeric, is_ascii_digit, len_utf8}
-use Rattle.std.specs.List.{starts_with, prefix_len}
+use Rattle.std.specs.List.{starts_with, list_all, prefix_len}
 use Rattle.std.specs.Str.{chars}
 use Rattle.sl_model.specs.declared.text.Comments.{Comments}
 use Rattle.sl_model.specs.declared.text.Comments.TheVariants.{Slash, SlashAt}
@@ -23,6 +23,14 @@ begins_word c = is_ascii_alphabetic c || c == 95
 -- a letter, a digit or `_`
 abbrev pub is_word_byte : ℕ → Bool
 is_word_byte c = is_ascii_alphanumeric c || c == 95
+
+-- a unit's name: a letter, then letters, digits or `_`, and at most 16 bytes in all
+abbrev pub is_unit_name : List ℕ → Bool
+is_unit_name [] = false
+is_unit_name (c ∷ text) =
+    if is_ascii_alphabetic c then
+    (if list_all is_word_byte text then nat_lt (length text) 16 else false)
+    else false
 
 -- the number of bytes up to and with the first `*/`, or of all where there is none
 unfoldable pub comment_length : List ℕ → ℕ

@@ -9,6 +9,7 @@ mod marker;
 mod scan;
 pub mod text;
 pub mod token;
+pub mod words;
 
 pub use cut::{Cut, cut_region};
 pub use digits::{Numeral, decimal_value, digit_of, digits_value, number_value};
@@ -17,3 +18,4 @@ pub use scan::tokens;
 pub use sl_model::text::{Comments, CutRefusal, TokenKind};
 pub use text::{NotText, holds, lines, split_line, text_of, without_end};
 pub use token::{Token, Tokens};
+pub use words::{are_word_bytes, is_unit_name, is_word_byte};

@@ -9,6 +9,7 @@ ghost use Rattle.sl_text.specs.Tokens.{tokens_left, is_inside, blanks_before, Is
 use crate::line::Line;
 use crate::text::holds;
 use crate::token::Tokens;
+use crate::words::is_word_byte;
 use sl_model::text::{Comments, TokenKind};
 
 /// The tokens of a line; `inside` says that a block comment was begun above.
@@ -34,13 +35,6 @@ fn begins_word(first: char) -> bool
     ensures { result ≡ spec.begins_word first }
 {
     first.is_ascii_alphabetic() || first == '_'
-}
-
-// Whether a byte may stand in a word.
-fn is_word_byte(byte: u8) -> bool
-    ensures { result ≡ spec.is_word_byte byte }
-{
-    byte.is_ascii_alphanumeric() || byte == b'_'
 }
 
 // The number of word bytes at the start of a text.

@@ -1,5 +1,6 @@
 slothy_start:
-        add x2, x1, x0
-        eor x3, x2, x2
-        sub x4, x1, x0
+        ldr x1, [x0]
+        add x2, x1, x3
+        ldr x4, [x0, #8]
+        add x5, x4, x3
 slothy_end:

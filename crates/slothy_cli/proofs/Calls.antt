@@ -3,7 +3,7 @@ use Rattle.std.proofs.Common.{sym, ◌∙◌, ◌≡◌, ℕ, ◌⊎◌, inl, in
 use Rattle.std.specs.Prelude.{MatchOption, MatchResult}
 use Rattle.slothy_cli.specs.declared.stop.File.{File}
 use Rattle.slothy_cli.specs.declared.stop.Stop.{Stop}
-use Rattle.slothy_cli.specs.declared.stop.Stop.TheVariants.{Refused, TooLarge, Infeasible}
+use Rattle.slothy_cli.specs.declared.stop.Stop.TheVariants.{CoreRefused, Refused, TooLarge, Infeasible}
 use Rattle.slothy_cli.specs.declared.status.Status.TheVariants as statuses
 use Rattle.slothy_cli.specs.declared.status.Ending.{Ending}
 use Rattle.slothy_cli.specs.declared.status.Ending.TheVariants as endings
@@ -13,10 +13,11 @@ use Rattle.command_words.specs.declared.options.Options.{Options}
 use Rattle.command_words.specs.declared.options.WordsErr.{WordsErr}
 use Rattle.command_words.specs.declared.options.WordsErr.TheVariants as errors
 use Rattle.sl_model.specs.Answers.{Gives}
-use Rattle.slothy_cli.specs.Command.{Command, command_in, command_by, command_of}
+use Rattle.slothy_cli.specs.Command.{Job, cost, opt, Command, command_in, command_by, command_of}
+use Rattle.slothy_cli.specs.Setting.{Setting}
 use Rattle.sl_isa.specs.Language.{Language}
 use Rattle.slothy_cli.specs.Reads.{outcome}
-use Rattle.slothy_cli.specs.Outcome.{Work, costing, rescheduling, running, WorkAnswers, command_reads, CommandAnswers}
+use Rattle.slothy_cli.specs.Outcome.{JobAnswers, Work, scheduling, running, WorkAnswers, command_reads, CommandAnswers}
 use Rattle.slothy_cli.specs.Messages.{Names, status_of, stop_status, message_of}
 use Rattle.slothy_cli.specs.Ending.{FilesRun, SinkRun, TookNothing, TookFront, Seen, names_of_command, names_given, seen_of, HasCome, AreTold, Comes, Ends, IsWrong, Call, IsStatusOf}
 use Rattle.slothy_cli.proofs.Follows.{AgreesOrFails, follows-no_memory, follows-never, follows-agrees}
@@ -28,6 +29,7 @@ HasEnded language command holds files out ending = MatchOption command (IsWrong 
 -- ---- wrong use
 
 stop_is_no_usage : (stop : Stop) → stop_status stop ≡ statuses.Usage → ⊥
+stop_is_no_usage (CoreRefused reason key) e = cc
 stop_is_no_usage (Refused file line reason) e = cc
 stop_is_no_usage (TooLarge file line quantity limit) e = cc
 stop_is_no_usage (Infeasible most) e = cc
@@ -118,13 +120,16 @@ alike_same (Err x) (Err y) e = cc
 alike_same (Ok x) (Err y) e = absurd (cc)
 alike_same (Err x) (Ok y) e = absurd (cc)
 
+job_alike : (language : Language) (job : Job) (setting : Setting) (a b : Result (List ℕ) Stop) → JobAnswers language job setting a → JobAnswers language job setting b → AreAlike a b
+job_alike language cost setting a b h k = alike_same a b (h ∙ sym k)
+job_alike language (opt aim) setting (Ok x) (Ok y) h k = tt
+job_alike language (opt aim) setting (Err x) (Err y) h k = h.0 ∙ sym k.0
+job_alike language (opt aim) setting (Ok x) (Err y) h k = k.1 h.schedule h.best.member
+job_alike language (opt aim) setting (Err x) (Ok y) h k = h.1 k.schedule k.best.member
+
 work_alike : (language : Language) (work : Work) (a b : Result (List ℕ) Stop) → WorkAnswers language work a → WorkAnswers language work b → AreAlike a b
-work_alike language (costing latency region) a b h k = alike_same a b (h ∙ sym k)
+work_alike language (scheduling job setting) a b h k = job_alike language job setting a b h k
 work_alike language (running region state) a b h k = alike_same a b (h ∙ sym k)
-work_alike language (rescheduling aim region) (Ok x) (Ok y) h k = tt
-work_alike language (rescheduling aim region) (Err x) (Err y) h k = h.0 ∙ sym k.0
-work_alike language (rescheduling aim region) (Ok x) (Err y) h k = k.1 h.schedule h.best.member
-work_alike language (rescheduling aim region) (Err x) (Ok y) h k = h.1 k.schedule k.best.member
 
 -- an answer to what came of a tree
 abbrev IsOutcome : Language → Result Work Stop → Result (List ℕ) Stop → Type 0
@@ -149,9 +154,11 @@ text_status text (Ok other) e = (tt, tt)
 text_status text (Err stop) e = absurd e
 
 stop_is_status : (stop : Stop) (answer : Result (List ℕ) Stop) → AreAlike answer (Err stop) → IsStatusOf answer (stop_status stop)
+stop_is_status (CoreRefused reason key) (Ok text) e = absurd e
 stop_is_status (Refused file line reason) (Ok text) e = absurd e
 stop_is_status (TooLarge file line quantity limit) (Ok text) e = absurd e
 stop_is_status (Infeasible most) (Ok text) e = absurd e
+stop_is_status (CoreRefused reason key) (Err other) e = ap stop_status e
 stop_is_status (Refused file line reason) (Err other) e = ap stop_status e
 stop_is_status (TooLarge file line quantity limit) (Err other) e = ap stop_status e
 stop_is_status (Infeasible most) (Err other) e = ap stop_status e

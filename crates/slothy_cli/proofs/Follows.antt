@@ -14,7 +14,7 @@ use Rattle.slothy_cli.specs.declared.status.Ending.{Ending}
 use Rattle.slothy_cli.specs.declared.status.Ending.TheVariants as endings
 use Rattle.slothy_cli.specs.Reads.{Reads, Given, Halted, Read, ◌>>=◌, given, too_long, outcome}
 use Rattle.slothy_cli.specs.Messages.{Names, name_in}
-use Rattle.slothy_cli.specs.Ending.{FilesRun, Seen, known_of, AreOf, HasFailed, HasCome, Follows, AreTold}
+use Rattle.slothy_cli.specs.Ending.{FilesRun, Seen, known_of, AreOf, HasFailed, EndsUnread, HasCome, Follows, AreTold}
 use Rattle.sl_model.specs.Answers.{Gives, Refuses, Settles}
 use Rattle.slothy_cli.specs.declared.stop.Failure.{Failure}
 use Rattle.slothy_cli.specs.declared.stop.Failure.TheVariants as failures
@@ -36,7 +36,7 @@ seen_from before seen = record {
   };
 }
 
-failed-earlier : (before : ℕ) (seen : Seen) (file : File) (result : Result (List ℕ) Ending) → before ≤ seen.run.faults_before → HasFailed seen file result → HasFailed (seen_from before seen) file result
+failed-earlier : {R : Type 0} (before : ℕ) (seen : Seen) (file : File) (result : Result R Ending) → before ≤ seen.run.faults_before → EndsUnread seen file result → EndsUnread (seen_from before seen) file result
 failed-earlier before seen file (Err (endings.ReadFault failed)) within h = (h.0, risen_before before seen.run.faults_before seen.run.faults_after within h.1, h.2, h.3)
 failed-earlier before seen file (Err (endings.Stopped stop)) within h = h
 failed-earlier before seen file (Err endings.NoMemory) within h = h
@@ -46,43 +46,95 @@ failed-earlier before seen file (Err (endings.WriteFault sent)) within h = h
 failed-earlier before seen file (Ok text) within h = h
 
 -- a call whose later part followed a tree, and read nothing before, followed it
-pub follows-earlier : {A : Type 0} (before : ℕ) (seen : Seen) (Answers : A → Result (List ℕ) Stop → Type 0) (tree : Reads A) (result : Result (List ℕ) Ending) → before ≤ seen.run.faults_before → Follows seen Answers tree result → Follows (seen_from before seen) Answers tree result
+pub follows-earlier : {A R : Type 0} (before : ℕ) (seen : Seen) (Answers : A → Result R Stop → Type 0) (tree : Reads A) (result : Result R Ending) → before ≤ seen.run.faults_before → Follows seen Answers tree result → Follows (seen_from before seen) Answers tree result
 unfolding Follows
 follows-earlier before seen Answers (Given a) result within h = h
 follows-earlier before seen Answers (Halted stop) result within h = h
-follows-earlier before seen Answers (Read file next) result within h = earlier (λ bytes rest. follows-earlier before seen Answers (next bytes) result within rest) h
+follows-earlier {A} {R} before seen Answers (Read file next) result within h = earlier (λ bytes rest. follows-earlier before seen Answers (next bytes) result within rest) h
   where
     earlier : ((bytes : List ℕ) → Follows seen Answers (next bytes) result → Follows (seen_from before seen) Answers (next bytes) result)
-        → HasFailed seen file result ⊎ ((bytes : List ℕ) × (length bytes ≤ FILE_BYTES) × AreOf (known_of seen file) bytes × Follows seen Answers (next bytes) result)
-        → HasFailed (seen_from before seen) file result ⊎ ((bytes : List ℕ) × (length bytes ≤ FILE_BYTES) × AreOf (known_of seen file) bytes × Follows (seen_from before seen) Answers (next bytes) result)
+        → EndsUnread seen file result ⊎ ((bytes : List ℕ) × (length bytes ≤ FILE_BYTES) × AreOf (known_of seen file) bytes × Follows seen Answers (next bytes) result)
+        → EndsUnread (seen_from before seen) file result ⊎ ((bytes : List ℕ) × (length bytes ≤ FILE_BYTES) × AreOf (known_of seen file) bytes × Follows (seen_from before seen) Answers (next bytes) result)
     earlier later (inl failed) = inl (failed-earlier before seen file result within failed)
     earlier later (inr (bytes, short, of, rest)) = inr (bytes, short, of, later bytes rest)
 
 -- memory may run out anywhere
-pub follows-no_memory : {A : Type 0} (seen : Seen) (Answers : A → Result (List ℕ) Stop → Type 0) (tree : Reads A) → Follows seen Answers tree (Err endings.NoMemory)
+pub follows-no_memory : {A R : Type 0} (seen : Seen) (Answers : A → Result R Stop → Type 0) (tree : Reads A) → Follows seen Answers tree (Err endings.NoMemory)
 unfolding Follows
 follows-no_memory seen Answers (Given a) = tt
 follows-no_memory seen Answers (Halted stop) = tt
 follows-no_memory seen Answers (Read file next) = inl tt
 
 -- no call that follows a tree ends in a way that is neither a failed read nor an answer
-pub follows-never : {A : Type 0} (seen : Seen) (Answers : A → Result (List ℕ) Stop → Type 0) (tree : Reads A) (ending : Ending) → ((file : File) → HasFailed seen file (Err ending) → ⊥) → ((IsAnswer : Result (List ℕ) Stop → Type 0) → HasCome IsAnswer (Err ending) → ⊥)
+pub follows-never : {A R : Type 0} (seen : Seen) (Answers : A → Result R Stop → Type 0) (tree : Reads A) (ending : Ending) → ((file : File) → HasFailed seen file ending → ⊥) → ((IsAnswer : Result R Stop → Type 0) → HasCome IsAnswer (Err ending) → ⊥)
     → Follows seen Answers tree (Err ending) → ⊥
 unfolding Follows
 follows-never seen Answers (Given a) ending failed come h = come (Answers a) h
 follows-never seen Answers (Halted stop) ending failed come h = come (λ answer. answer ≡ Err stop) h
-follows-never seen Answers (Read file next) ending failed come h = never (λ bytes rest. follows-never seen Answers (next bytes) ending failed come rest) h
+follows-never {A} {R} seen Answers (Read file next) ending failed come h = never (λ bytes rest. follows-never seen Answers (next bytes) ending failed come rest) h
   where
-    never : ((bytes : List ℕ) → Follows seen Answers (next bytes) (Err ending) → ⊥)
-        → HasFailed seen file (Err ending) ⊎ ((bytes : List ℕ) × (length bytes ≤ FILE_BYTES) × AreOf (known_of seen file) bytes × Follows seen Answers (next bytes) (Err ending)) → ⊥
+    never : ((bytes : List ℕ) → Follows {R = R} seen Answers (next bytes) (Err ending) → ⊥)
+        → HasFailed seen file ending ⊎ ((bytes : List ℕ) × (length bytes ≤ FILE_BYTES) × AreOf (known_of seen file) bytes × Follows {R = R} seen Answers (next bytes) (Err ending)) → ⊥
     never later (inl fault) = failed file fault
     never later (inr (bytes, short, of, rest)) = later bytes rest
 
 -- a reason to stop that needed no read
-pub follows-stopped : {A B : Type 0} (seen : Seen) (Answers : B → Result (List ℕ) Stop → Type 0) (r : Result A Stop) (next : A → Reads B) (stop : Stop) → r ≡ Err stop → Follows seen Answers (given r >>= next) (Err (endings.Stopped stop))
+pub follows-stopped : {A B R : Type 0} (seen : Seen) (Answers : B → Result R Stop → Type 0) (r : Result A Stop) (next : A → Reads B) (stop : Stop) → r ≡ Err stop → Follows seen Answers (given r >>= next) (Err (endings.Stopped stop))
 unfolding Follows
 follows-stopped seen Answers (Ok a) next stop e = absurd (cc)
 follows-stopped seen Answers (Err other) next stop e = let same : other ≡ stop = cc in ap Err (sym same)
+
+-- ---- one tree behind another
+
+-- The first part of a call came to something, and the rest followed the tree behind it.
+pub follows-then : {A B R : Type 0} (seen later : Seen) (Answers : B → Result R Stop → Type 0) (tree : Reads A) (next : A → Reads B) (a : A) (result : Result R Ending) → seen.names ≡ later.names → seen.holds ≡ later.holds
+    → Follows seen (λ x answer. answer ≡ Ok x) tree (Ok a) → Follows later Answers (next a) result → Follows later Answers (tree >>= next) result
+unfolding Follows
+follows-then {A} {B} {R} seen later Answers (Given x) next a result names holds h rest =
+    let same : a ≡ x = cc in
+    subst (λ y. Follows later Answers (next y) result) same rest
+follows-then seen later Answers (Halted stop) next a result names holds h rest = absurd (cc)
+follows-then {A} {B} {R} seen later Answers (Read file more) next a result names holds h rest = behind (λ bytes first. follows-then seen later Answers (more bytes) next a result names holds first rest) h
+  where
+    told : (bytes : List ℕ) → AreOf (known_of seen file) bytes → AreOf (known_of later file) bytes
+    told bytes of = subst (λ (known : List ℕ → Option (List ℕ)). AreOf (known (name_in later.names file)) bytes) holds (subst (λ (n : Names). AreOf (seen.holds (name_in n file)) bytes) names of)
+
+    behind : ((bytes : List ℕ) → Follows {R = A} seen (λ x answer. answer ≡ Ok x) (more bytes) (Ok a) → Follows later Answers (more bytes >>= next) result)
+        → ⊥ ⊎ ((bytes : List ℕ) × (length bytes ≤ FILE_BYTES) × AreOf (known_of seen file) bytes × Follows {R = A} seen (λ x answer. answer ≡ Ok x) (more bytes) (Ok a))
+        → EndsUnread later file result ⊎ ((bytes : List ℕ) × (length bytes ≤ FILE_BYTES) × AreOf (known_of later file) bytes × Follows later Answers (more bytes >>= next) result)
+    behind go (inl failed) = absurd failed
+    behind go (inr (bytes, short, of, first)) = inr (bytes, short, told bytes of, go bytes first)
+
+-- a part of a call that came to nothing comes to the same whatever it should have come to
+come-stopped : (A R : Type 0) (stop : Stop) (ending : Ending) → HasCome {R = A} (λ answer. answer ≡ Err stop) (Err ending) → HasCome {R = R} (λ answer. answer ≡ Err stop) (Err ending)
+come-stopped A R stop (endings.Stopped other) h = let same : other ≡ stop = cc in ap Err same
+come-stopped A R stop endings.NoMemory h = tt
+come-stopped A R stop endings.Done h = absurd h
+come-stopped A R stop endings.Usage h = absurd h
+come-stopped A R stop (endings.ReadFault file) h = absurd h
+come-stopped A R stop (endings.WriteFault sent) h = absurd h
+
+-- memory that ran out where the tree had given what there is
+nothing-given : {A B R : Type 0} (seen : Seen) (Answers : B → Result R Stop → Type 0) (a : A) (tree : Reads B) (ending : Ending) → HasCome {R = A} (λ answer. answer ≡ Ok a) (Err ending) → Follows seen Answers tree (Err ending)
+nothing-given seen Answers a tree (endings.Stopped stop) h = absurd (cc)
+nothing-given seen Answers a tree endings.NoMemory h = follows-no_memory seen Answers tree
+nothing-given seen Answers a tree endings.Done h = absurd h
+nothing-given seen Answers a tree endings.Usage h = absurd h
+nothing-given seen Answers a tree (endings.ReadFault file) h = absurd h
+nothing-given seen Answers a tree (endings.WriteFault sent) h = absurd h
+
+-- The first part of a call came to nothing: so did the call.
+pub follows-nothing : {A B R : Type 0} (seen : Seen) (Answers : B → Result R Stop → Type 0) (tree : Reads A) (next : A → Reads B) (ending : Ending) → Follows {R = A} seen (λ x answer. answer ≡ Ok x) tree (Err ending) → Follows {R = R} seen Answers (tree >>= next) (Err ending)
+unfolding Follows
+follows-nothing seen Answers (Given x) next ending h = nothing-given seen Answers x (next x) ending h
+follows-nothing {A} {B} {R} seen Answers (Halted stop) next ending h = come-stopped A R stop ending h
+follows-nothing {A} {B} {R} seen Answers (Read file more) next ending h = behind (λ bytes first. follows-nothing {R = R} seen Answers (more bytes) next ending first) h
+  where
+    behind : ((bytes : List ℕ) → Follows {R = A} seen (λ x answer. answer ≡ Ok x) (more bytes) (Err ending) → Follows {R = R} seen Answers (more bytes >>= next) (Err ending))
+        → HasFailed seen file ending ⊎ ((bytes : List ℕ) × (length bytes ≤ FILE_BYTES) × AreOf (known_of seen file) bytes × Follows {R = A} seen (λ x answer. answer ≡ Ok x) (more bytes) (Err ending))
+        → HasFailed seen file ending ⊎ ((bytes : List ℕ) × (length bytes ≤ FILE_BYTES) × AreOf (known_of seen file) bytes × Follows {R = R} seen Answers (more bytes >>= next) (Err ending))
+    behind go (inl failed) = inl failed
+    behind go (inr (bytes, short, of, first)) = inr (bytes, short, of, go bytes first)
 
 -- what is known of bytes, as far as they are
 if_told : (known : Option (List ℕ)) (P : List ℕ → Type 0) → ((bytes : List ℕ) → known ≡ Some bytes → P bytes) → IfSome known P
@@ -97,7 +149,7 @@ unread-named : (seen : Seen) (file : File) (error : ReadErr)
     → MatchReadErr error ⊤ (λ _. FILE_BYTES < seen.run.given)
     → MatchReadErr error ⊤ (λ _. seen.run.chosen ≡ name_in seen.names file)
     → ((bytes : List ℕ) → known_of seen file ≡ Some bytes → MatchReadErr error ⊤ (λ _. FILE_BYTES < length bytes))
-    → HasFailed seen file (Err (unread_ending file error))
+    → HasFailed seen file (unread_ending file error)
 unread-named seen file errors.ReadFault risen chosen broken given long told = (refl, risen, chosen, broken)
 unread-named seen file (errors.TooLong limit) risen chosen broken given long told = (refl, long, given, if_told (known_of seen file) (λ bytes. FILE_BYTES < length bytes) told)
 unread-named seen file errors.NoMemory risen chosen broken given long told = tt
@@ -110,9 +162,9 @@ pub unread-failed : (seen : Seen) (file : File) (name : List ℕ) (error : ReadE
     → MatchReadErr error ⊤ (λ _. FILE_BYTES < seen.run.given)
     → MatchReadErr error ⊤ (λ _. seen.run.chosen ≡ name)
     → ((bytes : List ℕ) → seen.holds name ≡ Some bytes → MatchReadErr error ⊤ (λ _. FILE_BYTES < length bytes))
-    → HasFailed seen file (Err ending)
+    → HasFailed seen file ending
 unread-failed seen file name error ending ends is risen chosen broken given long told =
-    subst (λ e. HasFailed seen file (Err e)) (sym ends)
+    subst (HasFailed seen file) (sym ends)
     (unread-named seen file error risen
     (subst (λ n. MatchReadErr error (seen.run.chosen ≡ n) (λ _. ⊤)) is chosen)
     broken given
@@ -145,7 +197,7 @@ agrees-no_memory Answers (Ok a) = tt
 agrees-no_memory Answers (Err stop) = tt
 
 -- a read that failed, of a file whose bytes are known
-failed-agrees : {A : Type 0} (seen : Seen) (bytes : File → List ℕ) (Answers : A → Result (List ℕ) Stop → Type 0) (file : File) (next : List ℕ → Reads A) (result : Result (List ℕ) Ending) → known_of seen file ≡ Some (bytes file) → HasFailed seen file result → AgreesOrFails Answers (outcome bytes (Read file next)) result
+failed-agrees : {A : Type 0} (seen : Seen) (bytes : File → List ℕ) (Answers : A → Result (List ℕ) Stop → Type 0) (file : File) (next : List ℕ → Reads A) (result : Result (List ℕ) Ending) → known_of seen file ≡ Some (bytes file) → EndsUnread seen file result → AgreesOrFails Answers (outcome bytes (Read file next)) result
 unfolding outcome
 failed-agrees seen bytes Answers file next (Err (endings.ReadFault failed)) told h = inl (failed, refl)
 failed-agrees seen bytes Answers file next (Err (endings.Stopped stop)) told h =
@@ -165,7 +217,7 @@ follows-agrees seen bytes Answers (Halted stop) result told h = inr h
 follows-agrees seen bytes Answers (Read file next) result told h = by_read (λ rest. follows-agrees seen bytes Answers (next (bytes file)) result told.1 rest) h
   where
     by_read : (Follows seen Answers (next (bytes file)) result → AgreesOrFails Answers (outcome bytes (next (bytes file))) result)
-        → HasFailed seen file result ⊎ ((read : List ℕ) × (length read ≤ FILE_BYTES) × AreOf (known_of seen file) read × Follows seen Answers (next read) result)
+        → EndsUnread seen file result ⊎ ((read : List ℕ) × (length read ≤ FILE_BYTES) × AreOf (known_of seen file) read × Follows seen Answers (next read) result)
         → AgreesOrFails Answers (if nat_lt FILE_BYTES (length (bytes file)) then Err (too_long file) else outcome bytes (next (bytes file))) result
     by_read later (inl failed) = failed-agrees seen bytes Answers file next result told.0 failed
     by_read later (inr (read, short, of, rest)) =
@@ -177,41 +229,58 @@ follows-agrees seen bytes Answers (Read file next) result told h = by_read (λ r
 -- ---- parts of a call
 
 -- a file that was read, and what followed behind it
-pub follows-read : {A : Type 0} (seen : Seen) (Answers : A → Result (List ℕ) Stop → Type 0) (file : File) (next : List ℕ → Reads A) (names : Names) (bytes : List ℕ) (result : Result (List ℕ) Ending) → names ≡ seen.names → length bytes ≤ FILE_BYTES
+pub follows-read : {A R : Type 0} (seen : Seen) (Answers : A → Result R Stop → Type 0) (file : File) (next : List ℕ → Reads A) (names : Names) (bytes : List ℕ) (result : Result R Ending) → names ≡ seen.names → length bytes ≤ FILE_BYTES
     → AreOf (seen.holds (name_in names file)) bytes → Follows seen Answers (next bytes) result → Follows seen Answers (Read file next) result
 unfolding Follows
 follows-read seen Answers file next names bytes result same short of rest = inr (bytes, short, subst (λ (n : Names). AreOf (seen.holds (name_in n file)) bytes) same of, rest)
 
 -- a read that failed
-pub follows-failed : {A : Type 0} (seen : Seen) (Answers : A → Result (List ℕ) Stop → Type 0) (file : File) (next : List ℕ → Reads A) (names : Names) (result : Result (List ℕ) Ending) → names ≡ seen.names
-    → HasFailed (record { names = names; holds = seen.holds; run = seen.run }) file result → Follows seen Answers (Read file next) result
+pub follows-failed : {A R : Type 0} (seen : Seen) (Answers : A → Result R Stop → Type 0) (file : File) (next : List ℕ → Reads A) (names : Names) (ending : Ending) → names ≡ seen.names
+    → HasFailed (record { names = names; holds = seen.holds; run = seen.run }) file ending → Follows {R = R} seen Answers (Read file next) (Err ending)
 unfolding Follows
-follows-failed seen Answers file next names result same failed = inl (subst (λ (n : Names). HasFailed (record { names = n; holds = seen.holds; run = seen.run }) file result) same failed)
+follows-failed seen Answers file next names ending same failed = inl (subst (λ (n : Names). HasFailed (record { names = n; holds = seen.holds; run = seen.run }) file ending) same failed)
 
 -- what settles a question ends a call
-come-settled-so : {X : Type 0} (view : X → List ℕ) (r : Result X Failure) (IsAnswer : Result (List ℕ) Stop → Type 0) → Settles stop_told view r IsAnswer → HasCome IsAnswer (told view (ended r))
+come-settled-so : {X R : Type 0} (view : X → R) (r : Result X Failure) (IsAnswer : Result R Stop → Type 0) → Settles stop_told view r IsAnswer → HasCome IsAnswer (told view (ended r))
 come-settled-so view (Ok x) IsAnswer h = h
 come-settled-so view (Err (failures.Stopped stop)) IsAnswer h = h
 come-settled-so view (Err failures.NoMemory) IsAnswer h = tt
 
-pub come-settled : {X : Type 0} (view : X → List ℕ) (r : Result X Failure) (end : Result X Ending) (IsAnswer : Result (List ℕ) Stop → Type 0) → end ≡ ended r → Settles stop_told view r IsAnswer → HasCome IsAnswer (told view end)
+pub come-settled : {X R : Type 0} (view : X → R) (r : Result X Failure) (end : Result X Ending) (IsAnswer : Result R Stop → Type 0) → end ≡ ended r → Settles stop_told view r IsAnswer → HasCome IsAnswer (told view end)
 come-settled view r end IsAnswer is h = subst (λ e. HasCome IsAnswer (told view e)) (sym is) (come-settled-so view r IsAnswer h)
 
 -- and so does what gives a definition's answer
-come-given-so : {X : Type 0} (view : X → List ℕ) (r : Result X Failure) (answer : Result (List ℕ) Stop) → Gives stop_told view r answer → HasCome (λ a. a ≡ answer) (told view (ended r))
+come-given-so : {X R : Type 0} (view : X → R) (r : Result X Failure) (answer : Result R Stop) → Gives stop_told view r answer → HasCome (λ a. a ≡ answer) (told view (ended r))
 come-given-so view (Ok x) answer h = sym h
 come-given-so view (Err (failures.Stopped stop)) answer h = sym h
 come-given-so view (Err failures.NoMemory) answer h = tt
 
-pub come-given : {X : Type 0} (view : X → List ℕ) (r : Result X Failure) (end : Result X Ending) (answer : Result (List ℕ) Stop) → end ≡ ended r → Gives stop_told view r answer → HasCome (λ a. a ≡ answer) (told view end)
+pub come-given : {X R : Type 0} (view : X → R) (r : Result X Failure) (end : Result X Ending) (answer : Result R Stop) → end ≡ ended r → Gives stop_told view r answer → HasCome (λ a. a ≡ answer) (told view end)
 come-given view r end answer is h = subst (λ e. HasCome (λ a. a ≡ answer) (told view e)) (sym is) (come-given-so view r answer h)
 
 -- a region that is refused ends a call
-pub follows-refused : {A B : Type 0} (seen : Seen) (Answers : B → Result (List ℕ) Stop → Type 0) (r : Result A Stop) (next : A → Reads B) (failure : Failure) (ending : Ending) → ending ≡ failed_ending failure → Refuses (stop_told failure) r → Follows seen Answers (given r >>= next) (Err ending)
+pub follows-refused : {A B R : Type 0} (seen : Seen) (Answers : B → Result R Stop → Type 0) (r : Result A Stop) (next : A → Reads B) (failure : Failure) (ending : Ending) → ending ≡ failed_ending failure → Refuses (stop_told failure) r → Follows seen Answers (given r >>= next) (Err ending)
 follows-refused seen Answers r next (failures.Stopped stop) ending is h = subst (λ e. Follows seen Answers (given r >>= next) (Err e)) (sym is) (follows-stopped seen Answers r next stop h)
 follows-refused seen Answers r next failures.NoMemory ending is h = subst (λ e. Follows seen Answers (given r >>= next) (Err e)) (sym is) (follows-no_memory seen Answers (given r >>= next))
 
 -- a tree without a read, and what a call came to
-pub follows-given : {A : Type 0} (seen : Seen) (Answers : A → Result (List ℕ) Stop → Type 0) (a : A) (result : Result (List ℕ) Ending) → HasCome (Answers a) result → Follows seen Answers (Given a) result
+pub follows-given : {A R : Type 0} (seen : Seen) (Answers : A → Result R Stop → Type 0) (a : A) (result : Result R Ending) → HasCome (Answers a) result → Follows seen Answers (Given a) result
 unfolding Follows
 follows-given seen Answers a result h = h
+
+-- what is there by a definition, and a call that gives it
+gives-follows : {X R : Type 0} (seen : Seen) (view : X → R) (r : Result R Stop) (answer : Result X Failure) → Gives stop_told view answer r → Follows {R = R} seen (λ x came. came ≡ Ok x) (given r) (told view (ended answer))
+unfolding Follows
+gives-follows seen view (Ok y) (Ok x) h = sym h
+gives-follows seen view (Err stop) (Ok x) h = absurd (cc)
+gives-follows seen view (Ok y) (Err (failures.Stopped stop)) h = absurd (cc)
+gives-follows seen view (Err other) (Err (failures.Stopped stop)) h = sym h
+gives-follows seen view (Ok y) (Err failures.NoMemory) h = tt
+gives-follows seen view (Err stop) (Err failures.NoMemory) h = tt
+
+pub follows-gives : {X R : Type 0} (seen : Seen) (view : X → R) (r : Result R Stop) (answer : Result X Failure) (end : Result X Ending) → end ≡ ended answer → Gives stop_told view answer r → Follows {R = R} seen (λ x came. came ≡ Ok x) (given r) (told view end)
+follows-gives seen view r answer end is h = subst (λ e. Follows seen (λ x came. came ≡ Ok x) (given r) (told view e)) (sym is) (gives-follows seen view r answer h)
+
+-- a question that was answered without a read, and what followed
+pub follows-known : {A B R : Type 0} (seen : Seen) (Answers : B → Result R Stop → Type 0) (r : Result A Stop) (next : A → Reads B) (a : A) (result : Result R Ending) → r ≡ Ok a → Follows seen Answers (next a) result → Follows seen Answers (given r >>= next) result
+follows-known seen Answers r next a result is rest = subst (λ x. Follows seen Answers (given x >>= next) result) (sym is) rest

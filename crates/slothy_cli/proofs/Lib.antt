@@ -1,8 +1,6 @@
-pub mod PlainCosts
-pub mod OwnTimes
 pub mod Telling
 pub mod Follows
-pub mod Tasks
+pub mod Valid
 pub mod Calls
 pub mod OptChoices
 pub mod Marks

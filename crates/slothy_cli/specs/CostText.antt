@@ -1,52 +1,43 @@
--- The text of `cost` for a straight region on the core `one:L`.
-use Rattle.std.specs.Prelude.{ℕ, ◌+◌, List, [], ◌∷◌, ◌++◌, length, map, replicate, codes, None}
+-- The text of `cost` for a straight region on a core.
+use Rattle.std.specs.Prelude.{ℕ, List, [], ◌∷◌, ◌++◌, length, codes, None}
 use Rattle.std.specs.Fmt.{decimal}
 use Rattle.sl_model.specs.declared.instruction.Instr.{Instr}
 use Rattle.sl_model.specs.declared.schedule.Choice.{Choice}
-use Rattle.sl_model.specs.declared.schedule.CostRow.{CostRow}
-use Rattle.sl_model.specs.Source.{item_at, list_sources, numbers_below}
-use Rattle.sl_model.specs.Cycles.{CostTable, Issued, timed, cycle_count, cycles_of, stalls}
+use Rattle.sl_model.specs.Cycles.{timed, cycle_count, cycles_of}
+use Rattle.sl_model.specs.Isa.{Isa}
+use Rattle.sl_model.specs.Legal.{Problem, sources_in, frame_of, straight_problem}
+use Rattle.sl_model.specs.Space.{stalls_of}
+use Rattle.sl_isa.specs.Language.{Language}
+use Rattle.core_text.specs.Core.{CoreTable, unit_name}
+use Rattle.own_schedule.specs.OwnSchedule.{own_schedule}
+use Rattle.slothy_cli.specs.Setting.{Setting}
 
--- The core `one:L`: one unit takes an item in each cycle, keeps it for one, and each
--- result is ready after L cycles.
-abbrev pub plain_row : ℕ → CostRow
-plain_row latency =
-    record { class = 0; units = 1; busy = 1; latency = latency; writeback = latency; back = None }
-
--- the costs of the core `one:L` for so many items, which has no forwards
-abbrev pub plain_costs : ℕ → ℕ → CostTable
-plain_costs latency items =
-    record { width = 1; rows = replicate items (plain_row latency); forwards = [] }
-
--- an item where it stands: on the one unit, its outputs in their own registers
-abbrev pub own_choice : List Instr → ℕ → Choice
-own_choice items p = record { item = p; unit = 0; outs = (item_at items p).outs }
-
--- the items as they stand
-abbrev pub own_schedule : List Instr → List Choice
-own_schedule items = map (own_choice items) (numbers_below (length items))
-
--- when they are issued, the last first
-unfoldable pub own_times : ℕ → List Instr → List Issued
-own_times latency items =
-    timed (plain_costs latency (length items)) (list_sources items) (own_schedule items)
+-- the problem of the items as they stand, in which no register is free
+abbrev pub own_problem : Isa → Setting → Problem
+own_problem isa setting =
+    straight_problem isa setting.region.items
+    (frame_of setting.region.items None (record { bits = 0 })) setting.costs
 
 -- the numbers of an item: its cycle, its unit, its number, and its line in the file
-abbrev pub cost_numbers : ℕ → ℕ → ℕ → List ℕ
-cost_numbers cycle number line =
+abbrev pub cost_numbers : ℕ → List ℕ → ℕ → ℕ → List ℕ
+cost_numbers cycle unit item line =
     codes "c=" ++ (decimal cycle
-    ++ (codes " u=u i=" ++ (decimal number ++ (codes " line=" ++ (decimal line ++ codes " ")))))
+    ++ (codes " u=" ++ (unit
+    ++ (codes " i=" ++ (decimal item ++ (codes " line=" ++ (decimal line ++ codes " ")))))))
 
--- the line of an item: its numbers, and how it is printed
-abbrev pub cost_line : (Instr → List ℕ) → ℕ → Instr → ℕ → List ℕ
-cost_line printed number i cycle = cost_numbers cycle number i.line ++ (printed i ++ codes "\n")
+-- the line of an item that was chosen: its numbers, and how it is printed
+abbrev pub cost_line : (Instr → List ℕ) → CoreTable → Instr → Choice → ℕ → List ℕ
+cost_line printed core i c cycle =
+    cost_numbers cycle (unit_name core c.unit) c.item i.line ++ (printed i ++ codes "\n")
 
--- the lines of items from a number on, with their cycles
-unfoldable pub cost_lines : (Instr → List ℕ) → ℕ → List Instr → List ℕ → List ℕ
-cost_lines printed number [] cycles = []
-cost_lines printed number (i ∷ items) [] = []
-cost_lines printed number (i ∷ items) (cycle ∷ cycles) =
-    cost_line printed number i cycle ++ cost_lines printed (number + 1) items cycles
+-- the lines of items, with their choices and cycles
+unfoldable pub cost_lines : (Instr → List ℕ) → CoreTable → List Instr → List Choice → List ℕ
+    → List ℕ
+cost_lines printed core [] choices cycles = []
+cost_lines printed core (i ∷ items) [] cycles = []
+cost_lines printed core (i ∷ items) (c ∷ choices) [] = []
+cost_lines printed core (i ∷ items) (c ∷ choices) (cycle ∷ cycles) =
+    cost_line printed core i c cycle ++ cost_lines printed core items choices cycles
 
 -- how many items there are, the cycles that they take and the stalls among these
 abbrev pub cost_head : ℕ → ℕ → ℕ → List ℕ
@@ -55,13 +46,17 @@ cost_head items cycles stalled =
     ++ (codes " cycles=" ++ (decimal cycles
     ++ (codes " stalls=" ++ (decimal stalled ++ codes "\n")))))
 
--- the text of `cost` for items that are issued so, the last first: its
--- head, and a line for each item
-abbrev pub text_of : (Instr → List ℕ) → List Instr → List Issued → List ℕ
-text_of printed items times =
-    cost_head (length items) (cycle_count times) (stalls 1 times)
-    ++ cost_lines printed 0 items (cycles_of times)
+-- the text of a schedule of a problem that keeps the order of its items: its head, and a line for
+-- each item
+abbrev pub text_of : (Instr → List ℕ) → CoreTable → Problem → List Choice → List ℕ
+text_of printed core problem schedule =
+    let times = timed problem.costs (sources_in problem) schedule in
+    cost_head (length problem.graph.items) (cycle_count times) (stalls_of problem schedule)
+    ++ cost_lines printed core problem.graph.items schedule (cycles_of times)
 
 -- the text of `cost`
-unfoldable pub cost_text : (Instr → List ℕ) → ℕ → List Instr → List ℕ
-cost_text printed latency items = text_of printed items (own_times latency items)
+unfoldable pub cost_text : Language → Setting → List ℕ
+cost_text language setting =
+    let problem = own_problem language.isa setting in
+    text_of (language.printed setting.region.pairs) setting.core problem
+    (own_schedule setting.core problem)

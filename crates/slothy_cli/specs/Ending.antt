@@ -10,7 +10,8 @@ use Rattle.slothy_cli.specs.declared.status.Status.{Status}
 use Rattle.slothy_cli.specs.declared.status.Status.TheVariants as statuses
 use Rattle.slothy_cli.specs.declared.status.Ending.{Ending}
 use Rattle.slothy_cli.specs.declared.status.Ending.TheVariants.{Done, Usage, Stopped, ReadFault, WriteFault, NoMemory}
-use Rattle.slothy_cli.specs.Command.{Task, cost, opt, emulate, Command, command_of}
+use Rattle.command_words.specs.declared.options.CoreWord.TheVariants as cores
+use Rattle.slothy_cli.specs.Command.{Task, upon, emulate, Command, command_of}
 use Rattle.slothy_cli.specs.Reads.{Reads, Given, Halted, Read, too_long}
 use Rattle.slothy_cli.specs.Outcome.{command_reads, WorkAnswers}
 use Rattle.slothy_cli.specs.Messages.{Names, name_in, stop_status, message_of}
@@ -88,23 +89,27 @@ AreOf known bytes = IfSome known (λ told. told ≡ bytes)
 
 -- A read of a file failed: a call on it did; or it is too long, and more than the limit was read; or
 -- memory ran out.
-abbrev pub HasFailed : Seen → File → Result (List ℕ) Ending → Type 0
-HasFailed seen file (Err (ReadFault failed)) =
+abbrev pub HasFailed : Seen → File → Ending → Type 0
+HasFailed seen file (ReadFault failed) =
     (failed ≡ file) × HasRisen seen.run.faults_before seen.run.faults_after
     × (seen.run.chosen ≡ name_in seen.names file) × (seen.run.broken ≡ true)
-HasFailed seen file (Err (Stopped stop)) =
+HasFailed seen file (Stopped stop) =
     (stop ≡ too_long file) × (seen.run.chosen ≡ name_in seen.names file)
     × (FILE_BYTES < seen.run.given)
     × IfSome (known_of seen file) (λ told. FILE_BYTES < length told)
-HasFailed seen file (Err NoMemory) = Unit {0}
-HasFailed seen file (Err Done) = ⊥
-HasFailed seen file (Err Usage) = ⊥
-HasFailed seen file (Err (WriteFault sent)) = ⊥
-HasFailed seen file (Ok text) = ⊥
+HasFailed seen file NoMemory = Unit {0}
+HasFailed seen file Done = ⊥
+HasFailed seen file Usage = ⊥
+HasFailed seen file (WriteFault sent) = ⊥
+
+-- A call came to nothing, by a read that failed.
+abbrev pub EndsUnread : {R : Type 0} → Seen → File → Result R Ending → Type 0
+EndsUnread seen file (Ok x) = ⊥
+EndsUnread seen file (Err ending) = HasFailed seen file ending
 
 -- A call came to an answer, or memory ran out.
-abbrev pub HasCome : (Result (List ℕ) Stop → Type 0) → Result (List ℕ) Ending → Type 0
-HasCome IsAnswer (Ok text) = IsAnswer (Ok text)
+abbrev pub HasCome : {R : Type 0} → (Result R Stop → Type 0) → Result R Ending → Type 0
+HasCome IsAnswer (Ok x) = IsAnswer (Ok x)
 HasCome IsAnswer (Err (Stopped stop)) = IsAnswer (Err stop)
 HasCome IsAnswer (Err NoMemory) = Unit {0}
 HasCome IsAnswer (Err Done) = ⊥
@@ -115,12 +120,12 @@ HasCome IsAnswer (Err (WriteFault sent)) = ⊥
 -- A call followed a tree of reads, and came to this: each file that it read has the bytes that it
 -- went on from, where they are known, and no more than the limit; at the end it came to an answer to
 -- what was there, or to the tree's reason to stop; or a read failed.
-unfoldable pub Follows : {A : Type 0} → Seen → (A → Result (List ℕ) Stop → Type 0) → Reads A
-    → Result (List ℕ) Ending → Type 0
+unfoldable pub Follows : {A R : Type 0} → Seen → (A → Result R Stop → Type 0) → Reads A
+    → Result R Ending → Type 0
 Follows seen Answers (Given a) result = HasCome (Answers a) result
 Follows seen Answers (Halted stop) result = HasCome (λ answer. answer ≡ Err stop) result
 Follows seen Answers (Read file next) result =
-    HasFailed seen file result
+    EndsUnread seen file result
     ⊎ ((bytes : List ℕ) × (length bytes ≤ FILE_BYTES) × AreOf (known_of seen file) bytes
     × Follows seen Answers (next bytes) result)
 
@@ -134,15 +139,21 @@ AreTold names holds bytes (Read file next) =
 
 -- ---- how a command ends
 
+-- the name of the core's file, as messages have it: empty where none is read
+abbrev pub core_name : Task → List ℕ
+core_name (upon (cores.File name) job) = name
+core_name (upon (cores.Plain latency) job) = []
+core_name (emulate state turns) = []
+
 -- the name of the state file, as messages have it: empty where none is read
 abbrev pub state_name : Task → List ℕ
-state_name (cost latency) = []
-state_name (opt aim) = []
+state_name (upon core job) = []
 state_name (emulate state turns) = state
 
 -- the names of a command's files, as messages have them
 abbrev pub names_of_command : Command → Names
-names_of_command c = record { input = c.name; state = state_name c.task }
+names_of_command c =
+    record { core = core_name c.task; input = c.name; state = state_name c.task }
 
 -- what is seen of a command's files
 abbrev pub seen_of : Command → (List ℕ → Option (List ℕ)) → FilesRun → Seen
@@ -174,7 +185,7 @@ Ends language c seen out Usage = ⊥
 
 -- the names of the files that words give, if they are right
 abbrev pub names_given : Option Command → Names
-names_given None = record { input = []; state = [] }
+names_given None = record { core = []; input = []; state = [] }
 names_given (Some c) = names_of_command c
 
 -- Words that are wrong end a call as wrong use, or memory ran out.

@@ -1,10 +1,16 @@
--- What the bytes of the files hold: a text, a region, a state. Source: the format of each file, in the
+-- What the bytes of the files hold: a core, a text, a region, a state; and what a region costs. Source: the format of each file, in the
 -- order of its refusals.
 use Rattle.std.specs.Prelude.{ℕ, List, Option, None, Some, Result, Ok, Err}
 use Rattle.sl_model.specs.declared.instruction.Instr.{Instr}
 use Rattle.sl_model.specs.declared.text.CutRefusal.TheVariants as cuts
 use Rattle.sl_model.specs.ResultSteps.{◌>>=◌}
 use Rattle.sl_model.specs.Text.{bad_line}
+use Rattle.sl_model.specs.Cycles.{CostTable}
+use Rattle.sl_model.specs.Source.{item_at}
+use Rattle.core_text.specs.Core.{CoreTable}
+use Rattle.core_text.specs.Reading.{core_from}
+use Rattle.core_text.specs.Refusal as core_text
+use Rattle.core_models.specs.Costs.{Lacking, costs_of}
 use Rattle.sl_isa.specs.Language.{Language}
 use Rattle.asm_reader.specs.declared.reasons.Reason as reading
 use Rattle.asm_reader.specs.declared.reasons.Reason.TheVariants as why
@@ -14,10 +20,19 @@ use Rattle.state_text.specs.Running.{run_text}
 use Rattle.slothy_cli.specs.declared.stop.Reason.TheVariants as reasons
 use Rattle.slothy_cli.specs.declared.stop.Quantity.TheVariants as quantities
 use Rattle.slothy_cli.specs.declared.stop.Stop.{Stop}
-use Rattle.slothy_cli.specs.declared.stop.Stop.TheVariants.{Refused, TooLarge}
+use Rattle.slothy_cli.specs.declared.stop.Stop.TheVariants.{CoreRefused, Refused, TooLarge}
 use Rattle.slothy_cli.specs.declared.stop.File.{File}
 use Rattle.slothy_cli.specs.declared.stop.File.TheVariants as files
 use Rattle.slothy_cli.specs.Command.{Command, wants_of}
+
+-- a core, or its refusal as a reason to stop
+abbrev pub core_or : Result CoreTable core_text.Refusal → Result CoreTable Stop
+core_or (Ok core) = Ok core
+core_or (Err refusal) = Err (CoreRefused refusal.reason refusal.key)
+
+-- the core of the language's architecture that the bytes of its file tell
+unfoldable pub file_core : Language → List ℕ → Result CoreTable Stop
+file_core language bytes = core_or (core_from language.isa.name bytes)
 
 -- the bytes of a file, unless a line of it is bad: it holds what is no character
 abbrev pub text_or : File → List ℕ → Option ℕ → Result (List ℕ) Stop
@@ -54,6 +69,16 @@ unfoldable pub file_region : Language → Command → List ℕ → Result Region
 file_region language c bytes = do
   text ← text_from files.Input bytes
   region_from language c text
+
+-- what the items of a region cost; or the first whose class has no entry, as a reason to stop
+abbrev pub costs_or : Region → Result CostTable Lacking → Result CostTable Stop
+costs_or region (Ok costs) = Ok costs
+costs_or region (Err lacking) =
+    Err (Refused files.Input (item_at region.items lacking.item).line reasons.ClassMissing)
+
+-- what the items of a region cost on a core
+unfoldable pub region_costs : Language → CoreTable → Region → Result CostTable Stop
+region_costs language core region = costs_or region (costs_of core language.isa region.items)
 
 -- the text that a run leaves, or the first bad line of the state file
 abbrev pub state_or : Result (List ℕ) ℕ → Result (List ℕ) Stop

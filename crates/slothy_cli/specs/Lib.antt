@@ -1,6 +1,7 @@
 pub mod Command
 pub mod Shown
 pub mod Reads
+pub mod Setting
 pub mod CostText
 pub mod Plan
 pub mod Inputs

@@ -2,6 +2,8 @@
 use Rattle.std.specs.Prelude.{ℕ, List, [], ◌∷◌, codes}
 use Rattle.std.specs.Fmt.{decimal}
 use Rattle.sl_model.specs.Text.{joined}
+use Rattle.core_text.specs.declared.reasons.CoreReason.{CoreReason}
+use Rattle.core_text.specs.declared.reasons.CoreReason.TheVariants as cores
 use Rattle.sl_isa.specs.declared.reasons.FormReason.{FormReason}
 use Rattle.sl_isa.specs.declared.reasons.FormReason.TheVariants as forms
 use Rattle.slothy_cli.specs.declared.stop.Reason.{Reason}
@@ -33,6 +35,7 @@ code_of statuses.TurnsSpent = 10
 
 -- the status of a reason to stop
 abbrev pub stop_status : Stop → Status
+stop_status (stops.CoreRefused reason key) = statuses.Refused
 stop_status (stops.Refused file line reason) = statuses.Refused
 stop_status (stops.TooLarge file line quantity limit) = statuses.TooLarge
 stop_status (stops.Infeasible most) = statuses.Infeasible
@@ -54,6 +57,18 @@ form_text forms.ImmediateRange = codes "ImmediateRange"
 form_text forms.RegisterClass = codes "RegisterClass"
 form_text forms.SameRegister = codes "SameRegister"
 
+-- the word for what is wrong with a core table
+abbrev pub core_reason_text : CoreReason → List ℕ
+core_reason_text cores.NotToml = codes "NotToml"
+core_reason_text cores.Missing = codes "Missing"
+core_reason_text cores.KeyUnknown = codes "KeyUnknown"
+core_reason_text cores.UnitUnknown = codes "UnitUnknown"
+core_reason_text cores.ClassUnknown = codes "ClassUnknown"
+core_reason_text cores.NumberRange = codes "NumberRange"
+core_reason_text cores.NameBad = codes "NameBad"
+core_reason_text cores.Twice = codes "Twice"
+core_reason_text cores.ArchOther = codes "ArchOther"
+
 -- the word for why a file is refused
 abbrev pub reason_text : Reason → List ℕ
 reason_text reasons.NotText = codes "NotText"
@@ -65,6 +80,7 @@ reason_text reasons.SymbolUnset = codes "SymbolUnset"
 reason_text reasons.NotYet = codes "NotYet"
 reason_text (reasons.Form form) = form_text form
 reason_text reasons.StateBad = codes "StateBad"
+reason_text reasons.ClassMissing = codes "ClassMissing"
 
 -- the word for what there is too much of
 abbrev pub quantity_text : Quantity → List ℕ
@@ -73,16 +89,26 @@ quantity_text quantities.Items = codes "items"
 
 -- the names of a command's files
 pub record Names : Type 0 where
+  pub core : List ℕ
   pub input : List ℕ
   pub state : List ℕ
 
 -- the name of one of a command's files
 abbrev pub name_in : Names → File → List ℕ
+name_in names files.Core = names.core
 name_in names files.Input = names.input
 name_in names files.State = names.state
 
+-- what stands before a key: a blank, and nothing before an empty one
+abbrev pub key_gap : List ℕ → List ℕ
+key_gap [] = []
+key_gap (c ∷ key) = codes " "
+
 -- the line that says why a file has no text
 abbrev pub stop_message : Names → Stop → List ℕ
+stop_message names (stops.CoreRefused reason key) =
+    joined (codes "slothy: " ∷ name_in names files.Core ∷ codes ": refused: " ∷ core_reason_text reason
+    ∷ key_gap key ∷ key ∷ codes "\n" ∷ [])
 stop_message names (stops.Refused file line reason) =
     joined (codes "slothy: " ∷ name_in names file ∷ codes ":" ∷ decimal line ∷ codes ": refused: "
     ∷ reason_text reason ∷ codes "\n" ∷ [])

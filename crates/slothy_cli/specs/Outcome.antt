@@ -16,9 +16,14 @@ use Rattle.slothy_cli.specs.declared.stop.Stop.{Stop}
 use Rattle.slothy_cli.specs.declared.stop.Stop.TheVariants.{Infeasible}
 use Rattle.slothy_cli.specs.declared.stop.File.{File}
 use Rattle.slothy_cli.specs.declared.stop.File.TheVariants as files
-use Rattle.slothy_cli.specs.Command.{Aim, Task, cost, opt, emulate, Command}
+use Rattle.command_words.specs.declared.options.CoreWord.{CoreWord}
+use Rattle.command_words.specs.declared.options.CoreWord.TheVariants as cores
+use Rattle.core_text.specs.Core.{CoreTable}
+use Rattle.core_text.specs.Plain.{plain_core}
+use Rattle.slothy_cli.specs.Command.{Aim, Job, cost, opt, Task, upon, emulate, Command}
+use Rattle.slothy_cli.specs.Setting.{Setting}
 use Rattle.slothy_cli.specs.Reads.{Reads, Given, ◌>>=◌, bytes_of, given, outcome}
-use Rattle.slothy_cli.specs.Inputs.{file_region, run_answer}
+use Rattle.slothy_cli.specs.Inputs.{file_core, file_region, region_costs, run_answer}
 use Rattle.slothy_cli.specs.Plan.{region_frame, region_problem, schedule_text, schedule_file}
 use Rattle.slothy_cli.specs.CostText.{cost_text}
 
@@ -28,67 +33,104 @@ wants_again = record { limit = SEARCHED }
 
 -- The text of `opt`: the written file of the best schedule; and its region, read by itself, leaves
 -- what the old one leaves, from every state.
-pub record OptText (language : Language) (aim : Aim) (region : Region)
+pub record OptText (language : Language) (aim : Aim) (setting : Setting)
     (text : List ℕ) : Type 0 where
   pub schedule : List Choice
-  pub best : IsBest (region_problem language.isa aim region.items) aim.most schedule
+  pub best : IsBest (region_problem language.isa aim setting) aim.most schedule
   pub text_is : text
-      ≡ schedule_file language region (region_problem language.isa aim region.items) schedule
+      ≡ schedule_file language setting.core setting.region
+      (region_problem language.isa aim setting) schedule
   pub new : Progress
   pub reads : region_alone language wants_again
-      (schedule_text language region (region_problem language.isa aim region.items) schedule)
+      (schedule_text language setting.core setting.region
+      (region_problem language.isa aim setting) schedule)
       ≡ Ok new
   pub same : (s : State)
-      → TagsHoldOf (space_of language.isa.name) (touches language.isa region.items s)
+      → TagsHoldOf (space_of language.isa.name) (touches language.isa setting.region.items s)
       → Leaves language.isa (λ flagged c. language.step_of (if flagged then Subs else Sub 1) c 0)
-      (region_frame aim region.items) (Straight region.items) (Straight new.draft.items) s
+      (region_frame aim setting.region.items) (Straight setting.region.items)
+      (Straight new.draft.items) s
 
--- what `opt` answers to the region of a file: the text of the best schedule, or that there is none
-abbrev pub OptAnswers : Language → Aim → Region → Result (List ℕ) Stop → Type 0
-OptAnswers language aim region (Ok text) = OptText language aim region text
-OptAnswers language aim region (Err stop) =
+-- what `opt` answers to a region on a core: the text of the best schedule, or that there is none
+abbrev pub OptAnswers : Language → Aim → Setting → Result (List ℕ) Stop → Type 0
+OptAnswers language aim setting (Ok text) = OptText language aim setting text
+OptAnswers language aim setting (Err stop) =
     (stop ≡ Infeasible aim.most)
     × ((schedule : List Choice)
-    → InSpace (region_problem language.isa aim region.items) aim.most schedule → ⊥)
+    → InSpace (region_problem language.isa aim setting) aim.most schedule → ⊥)
 
--- What is left to be done once the files are read: to say what a region costs on the core of a
--- latency, to reschedule it, or to run it on the bytes of a state file.
+-- what a job answers to a region on a core
+abbrev pub JobAnswers : Language → Job → Setting → Result (List ℕ) Stop → Type 0
+JobAnswers language cost setting answer = answer ≡ Ok (cost_text language setting)
+JobAnswers language (opt aim) setting answer = OptAnswers language aim setting answer
+
+-- What is left to be done once the files are read: a job on a core, or to run a region on the bytes
+-- of a state file.
 pub data Work : Type 0 where
-  costing : ℕ → Region → Work
-  rescheduling : Aim → Region → Work
+  scheduling : Job → Setting → Work
   running : Region → List ℕ → Work
 
 -- what is answered to it
 abbrev pub WorkAnswers : Language → Work → Result (List ℕ) Stop → Type 0
-WorkAnswers language (costing latency region) answer =
-    answer ≡ Ok (cost_text (language.printed region.pairs) latency region.items)
-WorkAnswers language (rescheduling aim region) answer = OptAnswers language aim region answer
+WorkAnswers language (scheduling job setting) answer = JobAnswers language job setting answer
 WorkAnswers language (running region state) answer =
     answer ≡ run_answer language region.items state
 
--- what a run reads behind the region
+-- the core of the file that is named
+abbrev pub core_file_reads : Language → Reads CoreTable
+core_file_reads language = do
+  core ← bytes_of files.Core
+  given (file_core language core)
+
+-- the core that a word names
+abbrev pub core_reads : Language → CoreWord → Reads CoreTable
+core_reads language (cores.Plain latency) = Given (plain_core language.isa.name latency)
+core_reads language (cores.File name) = core_file_reads language
+
+-- the region that the bytes of the input hold, and what is read behind it
+abbrev pub input_reads : Language → Command → (Region → Reads Work) → List ℕ → Reads Work
+input_reads language c next input = do
+  region ← given (file_region language c input)
+  next region
+
+-- a job on a region and a core, once it is known what the region costs
+abbrev pub setting_reads : Language → Job → CoreTable → Region → Reads Work
+setting_reads language job core region = do
+  costs ← given (region_costs language core region)
+  Given (scheduling job (record { core = core; region = region; costs = costs }))
+
+-- what a job on a core reads, and what is left to be done
+abbrev pub job_reads : Language → Command → Job → CoreTable → Reads Work
+job_reads language c job core = do
+  input ← bytes_of files.Input
+  input_reads language c (setting_reads language job core) input
+
+-- the same of a job on the core that a word names
+abbrev pub on_core_reads : Language → Command → CoreWord → Job → Reads Work
+on_core_reads language c word job = do
+  core ← core_reads language word
+  job_reads language c job core
+
+-- the state that a region is run on
 abbrev pub state_reads : Region → Reads Work
 state_reads region = do
   state ← bytes_of files.State
   Given (running region state)
 
--- what a task reads behind the region, and what is left to be done
-abbrev pub task_reads : Task → Region → Reads Work
-task_reads (cost latency) region = Given (costing latency region)
-task_reads (opt aim) region = Given (rescheduling aim region)
-task_reads (emulate name turns) region = state_reads region
+-- what a run reads, and what is left to be done
+abbrev pub run_reads : Language → Command → Reads Work
+run_reads language c = do
+  input ← bytes_of files.Input
+  input_reads language c state_reads input
 
--- what a command reads behind the bytes of its input
-abbrev pub input_reads : Language → Command → List ℕ → Reads Work
-input_reads language c bytes = do
-  region ← given (file_region language c bytes)
-  task_reads c.task region
+-- what a task reads, and what is left to be done
+abbrev pub task_reads : Language → Command → Task → Reads Work
+task_reads language c (upon word job) = on_core_reads language c word job
+task_reads language c (emulate state turns) = run_reads language c
 
 -- what a command reads, in the order of its refusals, and what is left to be done
 unfoldable pub command_reads : Language → Command → Reads Work
-command_reads language c = do
-  input ← bytes_of files.Input
-  input_reads language c input
+command_reads language c = task_reads language c c.task
 
 -- What a command answers to the bytes of its files: a text, or the one reason why there is none.
 -- Each read may give it, in their order; and else what is left to be done does.

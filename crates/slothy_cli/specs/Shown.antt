@@ -9,22 +9,35 @@ use Rattle.slothy_cli.specs.declared.status.Ending.TheVariants as endings
 use Rattle.sl_base.specs.declared.reading.ReadErr.{ReadErr}
 use Rattle.sl_base.specs.declared.reading.ReadErr.TheVariants as errors
 use Rattle.slothy_cli.specs.declared.command.Aim as aims
+use Rattle.slothy_cli.specs.declared.command.Job as jobs
+use Rattle.slothy_cli.specs.declared.command.Job.TheVariants as job
 use Rattle.slothy_cli.specs.declared.command.Task as tasks
 use Rattle.slothy_cli.specs.declared.command.Task.TheVariants as task
+use Rattle.slothy_cli.specs.declared.setting.Setting as code
+use Rattle.asm_reader.specs.RegionViews.{region_of}
 use Rattle.slothy_cli.specs.declared.stop.File.{File}
-use Rattle.slothy_cli.specs.Command.{Aim, Task, cost, opt, emulate, Command}
+use Rattle.slothy_cli.specs.Command.{Aim, Job, cost, opt, Task, upon, emulate, Command}
+use Rattle.slothy_cli.specs.Setting.{Setting}
 use Rattle.slothy_cli.specs.Reads.{too_long}
 
 -- what `opt` is asked for
 abbrev pub shown_aim : aims.Aim → Aim
-shown_aim aim =
-    record { latency = aim.latency; live = aim.live; free = aim.free; most = aim.most }
+shown_aim aim = record { live = aim.live; free = aim.free; most = aim.most }
 
--- a task without where its names lie in memory
+-- what is done with a region
+abbrev pub shown_job : jobs.Job → Job
+shown_job job.Cost = cost
+shown_job (job.Opt aim) = opt (shown_aim aim)
+
+-- a task without where its words lie in memory
 abbrev pub shown_task : tasks.Task → Task
-shown_task (task.Cost latency) = cost latency
-shown_task (task.Opt aim) = opt (shown_aim aim)
+shown_task (task.OnCore core job) = upon core.now (shown_job job)
 shown_task (task.Run state turns) = emulate state.now turns
+
+-- a region on a core, without where it lies in memory
+abbrev pub setting_of : code.Setting → Setting
+setting_of s =
+    record { core = s.core.now; region = region_of s.region.now; costs = s.costs.now }
 
 -- a command without where its names lie in memory
 abbrev pub shown : words.Command → Command

@@ -1,10 +1,10 @@
 //! What a command is asked to do.
-ghost use Rattle.std.specs.Prelude.{◌≡◌, ◌≤◌, Option, Some, None, option_map, IfSome};
-ghost use Rattle.command_words.specs.Whole.{IsWhole};
-ghost use Rattle.slothy_cli.specs.Command.{HasLatency, wants_of, latency_in, task_in, command_in};
-ghost use Rattle.slothy_cli.specs.Ending.{names_of_command};
+ghost use Rattle.std.specs.Prelude.{◌≡◌, option_map, IfSome};
+ghost use Rattle.command_words.specs.Whole.{IsWhole, IsWholeCore};
+ghost use Rattle.slothy_cli.specs.Command.{HasCore, upon, wants_for, wants_of, task_in, command_in};
+ghost use Rattle.slothy_cli.specs.Ending.{core_name, state_name, names_of_command};
 ghost use Rattle.slothy_cli.specs.NamesShown.{names_of};
-ghost use Rattle.slothy_cli.specs.Shown.{shown, shown_task};
+ghost use Rattle.slothy_cli.specs.Shown.{shown, shown_job, shown_task};
 
 use crate::files::Names;
 use asm_reader::Wants;
@@ -15,8 +15,6 @@ use sl_model::register::RegSet;
 /// What `opt` is asked for.
 #[derive(Clone, Copy, Debug)]
 pub struct Aim {
-    /// The latency of the core `one:L`, from 1 to 255 cycles.
-    pub latency: u8,
     /// The registers that live on behind the region; where none are given, all that it writes.
     pub live: Option<RegSet>,
     /// The registers that schedules may write beside those that the region writes.
@@ -25,35 +23,79 @@ pub struct Aim {
     pub most: u32,
 }
 
-/// What a command does.
+/// What is done with a region on a core.
 #[derive(Clone, Copy, Debug)]
-pub enum Task<'a> {
-    /// Says what the region costs as it stands, on the core with a latency from 1 to 255 cycles.
-    Cost { latency: u8 },
+pub enum Job {
+    /// Says what the region costs as it stands.
+    Cost,
     /// Writes the file with the region rescheduled.
     Opt(Aim),
-    /// Runs the region on the state of a file. A loop may run at most so many turns.
-    Run { state: &'a str, turns: u64 },
 }
 
-impl Task<'_> {
+impl Job {
     /// What is wanted of a region: at most 64 instructions, and by `opt` at most 8.
-    pub fn wants(&self) -> Wants
-        ensures { result ≡ wants_of (shown_task self.now) }
+    pub fn wants(self) -> Wants
+        ensures { result ≡ wants_for (shown_job self) }
     {
         match self {
-            Task::Opt(_) => Wants {
-                limit: SEARCHED as u16,
-            },
-            _ => Wants {
+            Job::Cost => Wants {
                 limit: ITEMS as u16,
+            },
+            Job::Opt(_) => Wants {
+                limit: SEARCHED as u16,
             },
         }
     }
 }
 
+/// What a command does.
+#[derive(Clone, Copy)]
+pub enum Task<'a> {
+    /// A job on the region of a file, for the core that a word names.
+    OnCore { core: &'a CoreWord, job: Job },
+    /// Runs the region on the state of a file. A loop may run at most so many turns.
+    Run { state: &'a str, turns: u64 },
+}
+
+impl<'a> Task<'a> {
+    /// What is wanted of a region.
+    pub fn wants(&self) -> Wants
+        ensures { result ≡ wants_of (shown_task self.now) }
+    {
+        match self {
+            Task::OnCore { job, .. } => job.wants(),
+            Task::Run { .. } => Wants {
+                limit: ITEMS as u16,
+            },
+        }
+    }
+
+    // The name of the core's file; empty where none is read.
+    fn core_name(&self) -> &'a str
+        ensures { result.now ≡ core_name (shown_task self.now) }
+    {
+        match self {
+            Task::OnCore {
+                core: CoreWord::File { name },
+                ..
+            } => name.text(),
+            _ => "",
+        }
+    }
+
+    // The name of the state file; empty where none is read.
+    fn state_name(&self) -> &'a str
+        ensures { result.now ≡ state_name (shown_task self.now) }
+    {
+        match self {
+            Task::Run { state, .. } => state,
+            Task::OnCore { .. } => "",
+        }
+    }
+}
+
 /// What is to be done, with which region of which file.
-#[derive(Clone, Copy, Debug)]
+#[derive(Clone, Copy)]
 pub struct Command<'a> {
     /// What is to be done.
     pub task: Task<'a>,
@@ -70,49 +112,43 @@ impl<'a> Command<'a> {
     pub fn names(&self) -> Names<'a>
         ensures { names_of result ≡ names_of_command (shown self.now) }
     {
-        let state = match self.task {
-            Task::Run { state, .. } => state,
-            _ => "",
-        };
         Names {
+            core: self.task.core_name(),
             input: self.name,
-            state,
+            state: self.task.state_name(),
         }
     }
 }
 
-// The latency of the core that is named. A core's file isn't read yet.
-fn latency_in(options: &Options) -> Option<u8>
+// A job on the core of options, which is in range.
+fn on_core(options: &Options, job: Job) -> Option<Task<'_>>
     requires { IsWhole options.now }
-    ensures value { result ≡ latency_in options.now.core }
-    ensures least { IfSome result (λ latency. 1 ≤ latency) }
+    ensures value { option_map shown_task result
+        ≡ option_map (λ core. upon core (shown_job job)) options.now.core }
+    ensures range { IfSome result (λ task. HasCore (shown_task task)) }
 {
-    match &options.core {
-        Some(CoreWord::Plain { latency }) => Some(*latency as u8),
-        _ => None,
-    }
+    let Some(core) = &options.core else {
+        return None;
+    };
+    Some(Task::OnCore { core, job })
 }
 
 // What is to be done.
 fn task_in(options: &Options) -> Option<Task<'_>>
     requires { IsWhole options.now }
     ensures value { option_map shown_task result ≡ task_in options.now.mode options.now }
-    ensures range { IfSome result (λ task. HasLatency (shown_task task)) }
+    ensures range { IfSome result (λ task. HasCore (shown_task task)) }
 {
     match options.mode {
-        Mode::Cost => {
-            let latency = latency_in(options)?;
-            Some(Task::Cost { latency })
-        }
-        Mode::Opt => {
-            let latency = latency_in(options)?;
-            Some(Task::Opt(Aim {
-                latency,
+        Mode::Cost => on_core(options, Job::Cost),
+        Mode::Opt => on_core(
+            options,
+            Job::Opt(Aim {
                 live: options.live,
                 free: options.free,
                 most: options.most,
-            }))
-        }
+            }),
+        ),
         Mode::Run => {
             let Some(state) = &options.state else {
                 return None;
@@ -125,11 +161,11 @@ fn task_in(options: &Options) -> Option<Task<'_>>
     }
 }
 
-/// The command of options; there is none where they ask for what isn't built yet.
+/// The command of options.
 pub fn command_in(options: &Options) -> Option<Command<'_>>
     requires { IsWhole options.now }
     ensures value { option_map shown result ≡ command_in options.now }
-    ensures range { IfSome result (λ command. HasLatency (shown_task command.task)) }
+    ensures range { IfSome result (λ command. HasCore (shown_task command.task)) }
 {
     let task = task_in(options)?;
     Some(Command {

@@ -1,5 +1,5 @@
 //! The files of a command: their names, and their reads.
-ghost use Rattle.std.specs.Prelude.{◌≡◌, ◌≤◌, length, Err, IfOk, IfErr};
+ghost use Rattle.std.specs.Prelude.{◌≡◌, ◌≤◌, length, IfOk, IfErr};
 ghost use Rattle.slothy_cli.specs.Messages.{name_in};
 ghost use Rattle.slothy_cli.specs.NamesShown.{names_of};
 ghost use Rattle.slothy_cli.specs.Shown.{unread_ending};
@@ -15,6 +15,7 @@ use std::alloc::Global;
 /// The names of a command's files; empty where there is no such file.
 #[derive(Clone, Copy, Debug)]
 pub struct Names<'a> {
+    pub core: &'a str,
     pub input: &'a str,
     pub state: &'a str,
 }
@@ -24,6 +25,7 @@ pub fn name_in<'a>(names: Names<'a>, file: File) -> &'a str
     ensures { result.now ≡ name_in (names_of names.entry) file }
 {
     match file {
+        File::Core => names.core,
         File::Input => names.input,
         File::State => names.state,
     }
@@ -62,7 +64,7 @@ pub fn read_file<F: Files>(
           names = names_of names.entry;
           holds = F.holds files.old;
           run = files_run F.faults F.given F.chosen F.broken files.old files.new;
-        }) file (Err ending)) }
+        }) file ending) }
 {
     match read_all(alloc, files, name_in(names, file), FILE_BYTES) {
         Ok(bytes) => Ok(bytes),

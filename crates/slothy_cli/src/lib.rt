@@ -2,6 +2,7 @@
 #![tactic(auto)]
 
 mod command;
+mod core_file;
 mod cost;
 mod files;
 mod input;
@@ -9,6 +10,7 @@ mod opt;
 mod plan;
 mod problem;
 mod report;
+mod setting;
 pub mod status;
 pub mod stop;
 mod top;

@@ -7,74 +7,79 @@ ghost use Rattle.sl_model.specs.Legal.{IsFullLegal};
 ghost use Rattle.renamer.specs.WellPosed.{IsGraphOf};
 ghost use Rattle.sl_model.specs.declared.limits.TheConstants.{SEARCHED};
 ghost use Rattle.sl_isa.specs.SymbolViews.{pairs};
-ghost use Rattle.asm_reader.specs.Regions.{AreNamed, IsRegion};
+ghost use Rattle.asm_reader.specs.Regions.{AreNamed, is_right_unit};
 ghost use Rattle.asm_reader.specs.RegionViews.{region_of};
 ghost use Rattle.asm_printer.specs.Printed.{is_whole_plan};
 ghost use Rattle.slothy_cli.specs.Plan as plans;
 ghost use Rattle.slothy_cli.specs.Plan.{schedule_file};
-ghost use Rattle.slothy_cli.specs.Command.{opt, wants_of};
+ghost use Rattle.slothy_cli.specs.Command.{opt, wants_for};
 ghost use Rattle.slothy_cli.specs.Outcome.{OptAnswers};
+ghost use Rattle.slothy_cli.specs.Setting.{IsSetting};
 ghost use Rattle.sl_model.specs.Answers.{Settles};
-ghost use Rattle.slothy_cli.specs.Shown.{shown_aim, stop_told};
+ghost use Rattle.slothy_cli.specs.Shown.{shown_aim, setting_of, stop_told};
 
 use crate::command::Aim;
 use crate::plan::plan_of;
 use crate::problem::region_problem;
+use crate::setting::Setting;
 use crate::stop::{Failure, Stop};
 use asm_printer::written_text;
-use asm_reader::Region;
 use bnb_solver::best_schedule;
 use legal_space::{Choice, Problem, times_of};
 use renamer::apply;
 use sl_isa::Arch;
 use std::alloc::Global;
 
-// The written file of a full legal schedule of the items of a region.
+// The written file of a full legal schedule of the items of a region, each on a unit of the core.
 #[tactic(auto, unfolding(crate::specs::Plan::plan_of))]
 fn written_file<A: Arch>(
     arch: &A,
     alloc: Global,
     problem: &Problem,
-    region: &Region<'_>,
+    setting: Setting<'_, '_>,
     schedule: &[Choice],
 ) -> Result<Vec<u8>, Failure>
     requires few { length schedule.now ≤ SEARCHED }
     requires known { IsTrue
         (list_all (λ c. nat_lt c.item (length problem.now.graph.items)) schedule.now) }
     requires units { IsTrue (list_all (λ c. nat_lt c.unit 16) schedule.now) }
+    requires on_core { IsTrue
+        (list_all (λ c. nat_lt c.unit (length setting.core.now.units)) schedule.now) }
     requires graph { IsGraphOf A.language.isa problem.now.graph }
     requires legal { IsFullLegal problem.now schedule.now }
-    requires named { AreNamed (pairs region.now.symbols)
+    requires named { AreNamed (pairs setting.region.now.symbols)
         (applied (body_of problem.now.graph) schedule.now) }
     ensures { Settles stop_told (λ text. text.items) result
         (λ answer. (answer
-        ≡ Ok (schedule_file A.language (region_of region.now) problem.now schedule.now))
-        × IsTrue (is_whole_plan (plans.plan_of problem.now schedule.now))) }
+        ≡ Ok (schedule_file A.language setting.entry.core.now (region_of setting.entry.region.now) problem.now
+        schedule.now))
+        × IsTrue (is_whole_plan (plans.plan_of setting.entry.core.now problem.now schedule.now))
+        × IsTrue (list_all (λ note. is_right_unit note.unit)
+        (plans.plan_of setting.entry.core.now problem.now schedule.now).notes)) }
 {
     let items = apply(alloc, problem, problem.items(), schedule)?;
     let times = times_of(alloc, problem, schedule)?;
-    let plan = plan_of(alloc, &items, schedule, &times)?;
-    let text = written_text(arch, alloc, region, &items, &plan)?;
+    let plan = plan_of(alloc, setting.core, &items, schedule, &times)?;
+    let text = written_text(arch, alloc, setting.region, &items, &plan)?;
     Ok(text)
 }
 
-/// The written file of the best schedule of a region of at most 8 items; or that no schedule has few
-/// enough stalls.
+/// The written file of the best schedule of a region on a core, of at most 8 items; or that no
+/// schedule has few enough stalls.
 pub fn opt_text<A: Arch>(
     arch: &A,
     alloc: Global,
-    region: &Region<'_>,
+    setting: Setting<'_, '_>,
     aim: Aim,
 ) -> Result<Vec<u8>, Failure>
-    requires least { 1 ≤ aim.latency }
-    requires right { IsRegion A.language (wants_of (opt (shown_aim aim))) (region_of region.now) }
+    requires { IsSetting A.language (wants_for (opt (shown_aim aim))) (setting_of setting) }
     ensures { Settles stop_told (λ text. text.items) result
-        (OptAnswers A.language (shown_aim aim) (region_of region.now)) }
+        (OptAnswers A.language (shown_aim aim) (setting_of setting.entry)) }
 {
-    let problem = region_problem(arch, alloc, &region.items, aim)?;
+    let problem = region_problem(arch, alloc, setting, aim)?;
     problem.is_searchable();
     let Some(schedule) = best_schedule(alloc, &problem, aim.most)? else {
         return Err(Failure::Stopped(Stop::Infeasible { most: aim.most }));
     };
-    written_file(arch, alloc, &problem, region, &schedule)
+    written_file(arch, alloc, &problem, setting, &schedule)
 }

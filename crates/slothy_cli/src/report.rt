@@ -2,13 +2,14 @@
 ghost use Rattle.std.specs.Prelude.{◌≡◌, ◌≤◌, [], ◌∷◌, map, codes};
 ghost use Rattle.std.specs.Fmt.{decimal};
 ghost use Rattle.sl_model.specs.Text.{joined};
-ghost use Rattle.slothy_cli.specs.Messages.{form_text, reason_text, quantity_text, stop_message, message_of};
+ghost use Rattle.slothy_cli.specs.Messages.{form_text, reason_text, core_reason_text, quantity_text, key_gap, stop_message, message_of};
 ghost use Rattle.slothy_cli.specs.NamesShown.{names_of};
 ghost use Rattle.slothy_cli.specs.Ending.{sink_run, TookFront};
 
 use crate::files::{Names, name_in};
 use crate::status::Ending;
-use crate::stop::{Quantity, Reason, Stop};
+use crate::stop::{File, Quantity, Reason, Stop};
+use core_text::CoreReason;
 use itoa::Buffer;
 use sl_base::{Sink, write_all};
 use sl_isa::FormReason;
@@ -53,7 +54,32 @@ fn reason_text(reason: Reason) -> &'static str
         Reason::NotYet => "NotYet",
         Reason::Form(form) => form_text(form),
         Reason::StateBad => "StateBad",
+        Reason::ClassMissing => "ClassMissing",
     }
+}
+
+// The name of a reason why a core table is refused.
+fn core_reason_text(reason: CoreReason) -> &'static str
+    ensures { result.now ≡ core_reason_text reason }
+{
+    match reason {
+        CoreReason::NotToml => "NotToml",
+        CoreReason::Missing => "Missing",
+        CoreReason::KeyUnknown => "KeyUnknown",
+        CoreReason::UnitUnknown => "UnitUnknown",
+        CoreReason::ClassUnknown => "ClassUnknown",
+        CoreReason::NumberRange => "NumberRange",
+        CoreReason::NameBad => "NameBad",
+        CoreReason::Twice => "Twice",
+        CoreReason::ArchOther => "ArchOther",
+    }
+}
+
+// What stands before a key.
+fn key_gap(key: &str) -> &'static str
+    ensures { result.now ≡ key_gap key.now }
+{
+    if key.is_empty() { "" } else { " " }
 }
 
 // The name of a quantity.
@@ -64,6 +90,25 @@ fn quantity_text(quantity: Quantity) -> &'static str
         Quantity::File => "file",
         Quantity::Items => "items",
     }
+}
+
+// Says that a core table is refused, at a key with a gap before it.
+fn report_core<'a, S: Sink>(
+    sink: &mut S,
+    name: &'a str,
+    reason: &'a str,
+    gap: &'a str,
+    key: &'a str,
+)
+    ensures never_falls { S.faults sink.old ≤ S.faults sink.new }
+    ensures took { TookFront (sink_run S.taken S.faults sink.old sink.new)
+        (joined (codes "slothy: " ∷ name.now ∷ codes ": refused: " ∷ reason.now ∷ gap.now ∷ key.now
+        ∷ codes "\n" ∷ [])) }
+{
+    tell(
+        sink,
+        &["slothy: ", name, ": refused: ", reason, gap, key, "\n"],
+    );
 }
 
 // Says that a line of a file is refused.
@@ -118,17 +163,22 @@ fn report_infeasible<S: Sink>(sink: &mut S, most: &str)
 }
 
 // Says why a file has no text.
-fn report_stop<S: Sink>(sink: &mut S, names: Names<'_>, stop: Stop)
+fn report_stop<S: Sink>(sink: &mut S, names: Names<'_>, stop: &Stop)
     ensures never_falls { S.faults sink.old ≤ S.faults sink.new }
     ensures took { TookFront (sink_run S.taken S.faults sink.old sink.new)
-        (stop_message (names_of names.entry) stop) }
+        (stop_message (names_of names.entry) stop.now) }
 {
     let mut line_digits = Buffer::new();
     let mut limit_digits = Buffer::new();
     match stop {
+        Stop::CoreRefused { reason, key } => {
+            let name = name_in(names, File::Core);
+            let key = key.text();
+            report_core(sink, name, core_reason_text(*reason), key_gap(key), key);
+        }
         Stop::Refused { file, line, reason } => {
-            let name = name_in(names, file);
-            report_refusal(sink, name, line_digits.format(line), reason_text(reason));
+            let name = name_in(names, *file);
+            report_refusal(sink, name, line_digits.format(*line), reason_text(*reason));
         }
         Stop::TooLarge {
             file,
@@ -136,12 +186,12 @@ fn report_stop<S: Sink>(sink: &mut S, names: Names<'_>, stop: Stop)
             quantity,
             limit,
         } => {
-            let name = name_in(names, file);
-            let line = line_digits.format(line);
-            let limit = limit_digits.format(limit);
-            report_limit(sink, name, line, quantity_text(quantity), limit);
+            let name = name_in(names, *file);
+            let line = line_digits.format(*line);
+            let limit = limit_digits.format(*limit);
+            report_limit(sink, name, line, quantity_text(*quantity), limit);
         }
-        Stop::Infeasible { most } => report_infeasible(sink, limit_digits.format(most)),
+        Stop::Infeasible { most } => report_infeasible(sink, limit_digits.format(*most)),
     }
 }
 
@@ -176,17 +226,17 @@ fn report_write_fault<S: Sink>(sink: &mut S, sent: u64)
 /// Writes the line of an ending, where the files have these names. It takes no memory, and
 /// goes as far as the sink takes it.
 #[tactic(auto, unfolding(crate::specs::Messages::message_of))]
-pub fn report<S: Sink>(sink: &mut S, names: Names<'_>, ending: Ending)
+pub fn report<S: Sink>(sink: &mut S, names: Names<'_>, ending: &Ending)
     ensures never_falls { S.faults sink.old ≤ S.faults sink.new }
     ensures took { TookFront (sink_run S.taken S.faults sink.old sink.new)
-        (message_of (names_of names.entry) ending) }
+        (message_of (names_of names.entry) ending.now) }
 {
     match ending {
         Ending::Done => tell(sink, &[]),
         Ending::Usage => tell(sink, &["slothy: usage: slothy MODE [INPUT] [OPTIONS]\n"]),
         Ending::Stopped(stop) => report_stop(sink, names, stop),
-        Ending::ReadFault(file) => report_read_fault(sink, name_in(names, file)),
-        Ending::WriteFault { sent } => report_write_fault(sink, sent),
+        Ending::ReadFault(file) => report_read_fault(sink, name_in(names, *file)),
+        Ending::WriteFault { sent } => report_write_fault(sink, *sent),
         Ending::NoMemory => tell(sink, &["slothy: no memory\n"]),
     }
 }

@@ -44,7 +44,7 @@ impl Status {
 }
 
 /// How a call ended, with its cause.
-#[derive(Clone, Copy, Debug, PartialEq, Eq)]
+#[derive(Drop)]
 pub enum Ending {
     /// The text was written whole.
     Done,
@@ -78,6 +78,7 @@ impl Ending {
         match self {
             Ending::Done => Status::Done,
             Ending::Usage => Status::Usage,
+            Ending::Stopped(Stop::CoreRefused { .. }) => Status::Refused,
             Ending::Stopped(Stop::Refused { .. }) => Status::Refused,
             Ending::Stopped(Stop::TooLarge { .. }) => Status::TooLarge,
             Ending::Stopped(Stop::Infeasible { .. }) => Status::Infeasible,

@@ -2,6 +2,7 @@
 ghost use Rattle.std.specs.Prelude.{◌≡◌};
 ghost use Rattle.slothy_cli.specs.declared.stop.Failure.TheVariants.{Stopped, NoMemory};
 
+use core_text::{CoreReason, KeyText};
 use sl_base::NoMemory as OutOfMemory;
 use sl_isa::FormReason;
 use std::alloc::{AllocError, AllocFailed};
@@ -27,11 +28,15 @@ pub enum Reason {
     Form(FormReason),
     /// The line is no line of a state file.
     StateBad,
+    /// The core says nothing of the class of the instruction.
+    ClassMissing,
 }
 
 /// A file of the command.
 #[derive(Clone, Copy, Debug, PartialEq, Eq)]
 pub enum File {
+    /// The one with the core table.
+    Core,
     /// The one with the region.
     Input,
     /// The one with the state.
@@ -48,8 +53,13 @@ pub enum Quantity {
 }
 
 /// Why an input has no answer. Lines are counted from 1, and 0 stands for the whole file.
-#[derive(Clone, Copy, Debug, PartialEq, Eq)]
+#[derive(Drop)]
 pub enum Stop {
+    /// The core table is refused, for this reason, at this key.
+    CoreRefused {
+        reason: CoreReason,
+        key: KeyText,
+    },
     /// The file is refused at this line, for this reason.
     Refused {
         file: File,
@@ -70,7 +80,7 @@ pub enum Stop {
 }
 
 /// Why a step gives no answer.
-#[derive(Clone, Copy, Debug, PartialEq, Eq)]
+#[derive(Drop)]
 pub enum Failure {
     /// The input has none.
     Stopped(Stop),

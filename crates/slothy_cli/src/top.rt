@@ -4,7 +4,7 @@ ghost use Rattle.arm64_table.specs.Arm64.{arm64};
 ghost use Rattle.slothy_cli.specs.declared.status.Ending.{Ending as TheEnding};
 ghost use Rattle.slothy_cli.specs.declared.stop.File.{File as TheFile};
 ghost use Rattle.slothy_cli.specs.declared.stop.Stop.{Stop as TheStop};
-ghost use Rattle.slothy_cli.specs.Command.{Command as Words, HasLatency, command_of};
+ghost use Rattle.slothy_cli.specs.Command.{Command as Words, HasCore, command_of};
 ghost use Rattle.slothy_cli.specs.Shown.{shown, shown_task};
 ghost use Rattle.slothy_cli.specs.Outcome.{command_reads, CommandAnswers};
 ghost use Rattle.slothy_cli.specs.Messages.{status_of, message_of};
@@ -41,7 +41,7 @@ fn carry_out<A: Arch, F: Files, O: Sink>(
     files: &mut F,
     out: &mut O,
 ) -> Ending
-    requires least { HasLatency (shown_task command.now.task) }
+    requires core { HasCore (shown_task command.now.task) }
     ensures same_files { F.holds files.new ≡ F.holds files.old }
     ensures files_never_fall { F.faults files.old ≤ F.faults files.new }
     ensures out_never_falls { O.faults out.old ≤ O.faults out.new }
@@ -64,10 +64,11 @@ fn refuse<E: Sink>(err: &mut E, ending: Ending) -> Ending
         (message_of (names_given None) ending) }
 {
     let names = Names {
+        core: "",
         input: "",
         state: "",
     };
-    report(err, names, ending);
+    report(err, names, &ending);
     ending
 }
 
@@ -98,7 +99,7 @@ fn call<A: Arch, F: Files, O: Sink, E: Sink>(
         return refuse(err, Ending::Usage);
     };
     let ending = carry_out(arch, alloc, &command, files, out);
-    report(err, command.names(), ending);
+    report(err, command.names(), &ending);
     ending
 }
 

@@ -1,36 +1,42 @@
 //! From a command and its files to the text.
-ghost use Rattle.std.specs.Prelude.{◌≡◌, ◌≤◌, length};
+ghost use Rattle.std.specs.Prelude.{◌≡◌, ◌≤◌, length, Ok};
 ghost use Rattle.std.specs.List.{AllByRecursion};
 ghost use Rattle.asm_reader.specs.Regions.{IsRegion};
 ghost use Rattle.asm_reader.specs.RegionViews.{region_of};
-ghost use Rattle.sl_model.specs.Answers.{Gives};
+ghost use Rattle.command_words.specs.Whole.{IsWholeCore};
+ghost use Rattle.sl_model.specs.Answers.{Gives, Settles};
 ghost use Rattle.sl_model.specs.Lawful.{IsValid};
 ghost use Rattle.sl_model.specs.declared.limits.TheConstants.{FILE_BYTES};
-ghost use Rattle.slothy_cli.specs.Command.{HasLatency, wants_of};
-ghost use Rattle.slothy_cli.specs.Ending.{files_run, seen_of, Follows, Comes};
+ghost use Rattle.slothy_cli.specs.Command.{HasCore, wants_for, wants_of};
+ghost use Rattle.slothy_cli.specs.Ending.{Seen, files_run, seen_of, Follows, Comes};
 ghost use Rattle.slothy_cli.specs.Inputs.{run_answer};
-ghost use Rattle.slothy_cli.specs.Outcome.{WorkAnswers, state_reads, task_reads, input_reads};
-ghost use Rattle.slothy_cli.specs.Shown.{shown, shown_task, stop_told, ended, told};
+ghost use Rattle.slothy_cli.specs.Outcome.{JobAnswers, WorkAnswers, core_file_reads, core_reads, setting_reads, input_reads, job_reads, on_core_reads, state_reads, run_reads};
+ghost use Rattle.slothy_cli.specs.Setting.{IsSetting};
+ghost use Rattle.slothy_cli.specs.Shown.{shown, shown_job, shown_task, setting_of, stop_told, ended, told};
 
-use crate::command::{Command, Task};
+use crate::command::{Command, Job, Task};
+use crate::core_file::{file_core, region_costs};
 use crate::cost::cost_text;
 use crate::files::read_file;
 use crate::input::{file_region, text_from};
 use crate::opt::opt_text;
+use crate::setting::Setting;
 use crate::status::Ending;
 use crate::stop::{Failure, File, Reason, Stop};
 use asm_reader::Region;
+use command_words::CoreWord;
+use core_text::{Core, plain_core};
 use sl_base::Files;
 use sl_isa::{Arch, Instr};
 use state_text::{StateErr, run_on_state};
 use std::alloc::Global;
 
 // What an answer to the files' bytes makes of the call.
-fn ended(answer: Result<Vec<u8>, Failure>) -> Result<Vec<u8>, Ending>
+fn ended<T>(answer: Result<T, Failure>) -> Result<T, Ending>
     ensures { result ≡ ended answer }
 {
     match answer {
-        Ok(text) => Ok(text),
+        Ok(answer) => Ok(answer),
         Err(failure) => Err(Ending::of(failure)),
     }
 }
@@ -84,51 +90,14 @@ fn text_of_state<A: Arch, F: Files>(
     }
 }
 
-// The text of a command, from its region.
-fn text_of_region<A: Arch, F: Files>(
-    arch: &A,
-    alloc: Global,
-    command: &Command<'_>,
-    region: &Region<'_>,
-    files: &mut F,
-) -> Result<Vec<u8>, Ending>
-    requires least { HasLatency (shown_task command.now.task) }
-    requires right { IsRegion A.language (wants_of (shown_task command.now.task))
-        (region_of region.now) }
-    ensures same_files { F.holds files.new ≡ F.holds files.old }
-    ensures never_falls { F.faults files.old ≤ F.faults files.new }
-    ensures follows { Follows
-        (seen_of (shown command.now) (F.holds files.old)
-        (files_run F.faults F.given F.chosen F.broken files.old files.new))
-        (WorkAnswers A.language)
-        (task_reads (shown_task command.now.task) (region_of region.now))
-        (told (λ text. text.items) result) }
-{
-    match command.task {
-        Task::Cost { latency } => match cost_text(
-            arch,
-            alloc,
-            &region.items,
-            &region.symbols,
-            latency,
-        ) {
-            Ok(text) => Ok(text),
-            Err(_) => Err(Ending::NoMemory),
-        },
-        Task::Opt(aim) => ended(opt_text(arch, alloc, region, aim)),
-        Task::Run { .. } => text_of_state(arch, alloc, command, region, files),
-    }
-}
-
-// The text of a command, from the bytes of its input, of which there are at most 1048576.
-fn text_of_input<A: Arch, F: Files>(
+// The text of a run, from the bytes of its input, of which there are at most 1048576.
+fn text_of_program<A: Arch, F: Files>(
     arch: &A,
     alloc: Global,
     command: &Command<'_>,
     bytes: &[u8],
     files: &mut F,
 ) -> Result<Vec<u8>, Ending>
-    requires least { HasLatency (shown_task command.now.task) }
     requires short { length bytes.now ≤ FILE_BYTES }
     ensures same_files { F.holds files.new ≡ F.holds files.old }
     ensures never_falls { F.faults files.old ≤ F.faults files.new }
@@ -136,12 +105,200 @@ fn text_of_input<A: Arch, F: Files>(
         (seen_of (shown command.now) (F.holds files.old)
         (files_run F.faults F.given F.chosen F.broken files.old files.new))
         (WorkAnswers A.language)
-        (input_reads A.language (shown command.now) bytes.now)
+        (input_reads A.language (shown command.now) state_reads bytes.now)
         (told (λ text. text.items) result) }
 {
     match file_region(arch, alloc, command, bytes) {
-        Ok(region) => text_of_region(arch, alloc, command, &region, files),
+        Ok(region) => text_of_state(arch, alloc, command, &region, files),
         Err(failure) => Err(Ending::of(failure)),
+    }
+}
+
+// The text of a run.
+fn text_of_run<A: Arch, F: Files>(
+    arch: &A,
+    alloc: Global,
+    command: &Command<'_>,
+    files: &mut F,
+) -> Result<Vec<u8>, Ending>
+    ensures same_files { F.holds files.new ≡ F.holds files.old }
+    ensures never_falls { F.faults files.old ≤ F.faults files.new }
+    ensures follows { Follows
+        (seen_of (shown command.now) (F.holds files.old)
+        (files_run F.faults F.given F.chosen F.broken files.old files.new))
+        (WorkAnswers A.language) (run_reads A.language (shown command.now))
+        (told (λ text. text.items) result) }
+{
+    match read_file(alloc, command.names(), File::Input, files) {
+        Ok(bytes) => text_of_program(arch, alloc, command, &bytes, files),
+        Err(ending) => Err(ending),
+    }
+}
+
+// The text of a job on a core.
+fn text_of_setting<A: Arch>(
+    arch: &A,
+    alloc: Global,
+    job: Job,
+    setting: Setting<'_, '_>,
+) -> Result<Vec<u8>, Failure>
+    requires setting { IsSetting A.language (wants_for (shown_job job)) (setting_of setting) }
+    ensures { Settles stop_told (λ text. text.items) result
+        (JobAnswers A.language (shown_job job) (setting_of setting.entry)) }
+{
+    match job {
+        Job::Cost => match cost_text(arch, alloc, setting) {
+            Ok(text) => Ok(text),
+            Err(_) => Err(Failure::NoMemory),
+        },
+        Job::Opt(aim) => opt_text(arch, alloc, setting, aim),
+    }
+}
+
+// The text of a job on a core, from its region.
+fn text_of_region<A: Arch>(
+    arch: &A,
+    alloc: Global,
+    job: Job,
+    core: &Core,
+    region: &Region<'_>,
+) -> Result<Vec<u8>, Ending>
+    requires right { IsRegion A.language (wants_for (shown_job job)) (region_of region.now) }
+    ensures follows { (seen : Seen) → Follows seen (WorkAnswers A.language)
+        (setting_reads A.language (shown_job job) core.now (region_of region.now))
+        (told (λ text. text.items) result) }
+{
+    match region_costs(arch, alloc, core, region) {
+        Ok(costs) => ended(text_of_setting(
+            arch,
+            alloc,
+            job,
+            Setting {
+                core,
+                region,
+                costs: &costs,
+            },
+        )),
+        Err(failure) => Err(Ending::of(failure)),
+    }
+}
+
+// The text of a job on a core, from the bytes of the input, of which there are at most 1048576.
+fn text_of_input<A: Arch>(
+    arch: &A,
+    alloc: Global,
+    command: &Command<'_>,
+    job: Job,
+    core: &Core,
+    bytes: &[u8],
+) -> Result<Vec<u8>, Ending>
+    requires wanted { wants_of (shown_task command.now.task) ≡ wants_for (shown_job job) }
+    requires short { length bytes.now ≤ FILE_BYTES }
+    ensures follows { (seen : Seen) → Follows seen (WorkAnswers A.language)
+        (input_reads A.language (shown command.now)
+        (setting_reads A.language (shown_job job) core.now) bytes.now)
+        (told (λ text. text.items) result) }
+{
+    match file_region(arch, alloc, command, bytes) {
+        Ok(region) => text_of_region(arch, alloc, job, core, &region),
+        Err(failure) => Err(Ending::of(failure)),
+    }
+}
+
+// The text of a job on a core.
+fn text_of_job<A: Arch, F: Files>(
+    arch: &A,
+    alloc: Global,
+    command: &Command<'_>,
+    job: Job,
+    core: &Core,
+    files: &mut F,
+) -> Result<Vec<u8>, Ending>
+    requires wanted { wants_of (shown_task command.now.task) ≡ wants_for (shown_job job) }
+    ensures same_files { F.holds files.new ≡ F.holds files.old }
+    ensures never_falls { F.faults files.old ≤ F.faults files.new }
+    ensures follows { Follows
+        (seen_of (shown command.now) (F.holds files.old)
+        (files_run F.faults F.given F.chosen F.broken files.old files.new))
+        (WorkAnswers A.language)
+        (job_reads A.language (shown command.now) (shown_job job) core.now)
+        (told (λ text. text.items) result) }
+{
+    match read_file(alloc, command.names(), File::Input, files) {
+        Ok(bytes) => text_of_input(arch, alloc, command, job, core, &bytes),
+        Err(ending) => Err(ending),
+    }
+}
+
+// The core of the file that a command names.
+fn core_of_file<A: Arch, F: Files>(
+    arch: &A,
+    alloc: Global,
+    command: &Command<'_>,
+    files: &mut F,
+) -> Result<Core, Ending>
+    ensures same_files { F.holds files.new ≡ F.holds files.old }
+    ensures never_falls { F.faults files.old ≤ F.faults files.new }
+    ensures follows { Follows
+        (seen_of (shown command.now) (F.holds files.old)
+        (files_run F.faults F.given F.chosen F.broken files.old files.new))
+        (λ core answer. answer ≡ Ok core) (core_file_reads A.language) (told (λ core. core) result) }
+{
+    match read_file(alloc, command.names(), File::Core, files) {
+        Ok(bytes) => ended(file_core(arch, alloc, &bytes)),
+        Err(ending) => Err(ending),
+    }
+}
+
+// The core that a word names.
+fn core_of_word<A: Arch, F: Files>(
+    arch: &A,
+    alloc: Global,
+    command: &Command<'_>,
+    word: &CoreWord,
+    files: &mut F,
+) -> Result<Core, Ending>
+    requires range { IsWholeCore word.now }
+    ensures same_files { F.holds files.new ≡ F.holds files.old }
+    ensures never_falls { F.faults files.old ≤ F.faults files.new }
+    ensures follows { Follows
+        (seen_of (shown command.now) (F.holds files.old)
+        (files_run F.faults F.given F.chosen F.broken files.old files.new))
+        (λ core answer. answer ≡ Ok core) (core_reads A.language word.now)
+        (told (λ core. core) result) }
+{
+    match word {
+        CoreWord::Plain { latency } => match plain_core(alloc, arch.name(), *latency as u8) {
+            Ok(core) => Ok(core),
+            Err(_) => Err(Ending::NoMemory),
+        },
+        CoreWord::File { .. } => core_of_file(arch, alloc, command, files),
+    }
+}
+
+// The text of a job on the core that a word names.
+fn text_on_core<A: Arch, F: Files>(
+    arch: &A,
+    alloc: Global,
+    command: &Command<'_>,
+    word: &CoreWord,
+    job: Job,
+    files: &mut F,
+) -> Result<Vec<u8>, Ending>
+    requires range { IsWholeCore word.now }
+    requires wanted { wants_of (shown_task command.now.task) ≡ wants_for (shown_job job) }
+    ensures same_files { F.holds files.new ≡ F.holds files.old }
+    ensures never_falls { F.faults files.old ≤ F.faults files.new }
+    ensures follows { Follows
+        (seen_of (shown command.now) (F.holds files.old)
+        (files_run F.faults F.given F.chosen F.broken files.old files.new))
+        (WorkAnswers A.language)
+        (on_core_reads A.language (shown command.now) word.now (shown_job job))
+        (told (λ text. text.items) result) }
+{
+    match core_of_word(arch, alloc, command, word, files) {
+        Ok(core) => text_of_job(arch, alloc, command, job, &core, files),
+        Err(ending) => Err(ending),
     }
 }
 
@@ -152,7 +309,7 @@ pub fn text_of_files<A: Arch, F: Files>(
     command: &Command<'_>,
     files: &mut F,
 ) -> Result<Vec<u8>, Ending>
-    requires least { HasLatency (shown_task command.now.task) }
+    requires core { HasCore (shown_task command.now.task) }
     ensures same_files { F.holds files.new ≡ F.holds files.old }
     ensures never_falls { F.faults files.old ≤ F.faults files.new }
     ensures comes { Comes A.language (shown command.now)
@@ -160,8 +317,8 @@ pub fn text_of_files<A: Arch, F: Files>(
         (files_run F.faults F.given F.chosen F.broken files.old files.new))
         (told (λ text. text.items) result) }
 {
-    match read_file(alloc, command.names(), File::Input, files) {
-        Ok(bytes) => text_of_input(arch, alloc, command, &bytes, files),
-        Err(ending) => Err(ending),
+    match command.task {
+        Task::OnCore { core, job } => text_on_core(arch, alloc, command, core, job, files),
+        Task::Run { .. } => text_of_run(arch, alloc, command, files),
     }
 }

@@ -1,4 +1,4 @@
-use Rattle.std.proofs.Common.{◌≡◌, ◌*◌, ◌≤◌, length, take, drop, reverse, get_or, EachIndex}
+use Rattle.std.proofs.Common.{◌≡◌, ◌*◌, ◌≤◌, None, length, take, drop, reverse, get_or, EachIndex}
 use Rattle.sl_model.specs.Cycles.{issued, timed, timed_from, cycles_of}
 use Rattle.sl_model.specs.Legal.{sources_in}
 use Rattle.issue_cost.specs.Timeline.{IsFreeBy}
@@ -11,7 +11,8 @@ invariant-loop-choice l = record {
   cycles : l.cycles.items ≡ cycles_of (issued l.issue.pushes);
   count : length (issued l.issue.pushes) ≡ l.choice-index;
   pushes : length l.issue.pushes ≡ l.choice-index;
-  room : l.issue.room ≡ length l.schedule;
+  unbroken : l.issue.pass ≡ None;
+  room : l.issue.room ≡ l.fn.issue.room;
   items : length l.latest ≡ length l.problem.graph.items;
   has : HasCycles l.latest (reverse (take l.choice-index l.schedule)) (issued l.issue.pushes);
   early : EachIndex l.latest (λ q. get_or l.latest q 0 ≤ 512 * l.choice-index);

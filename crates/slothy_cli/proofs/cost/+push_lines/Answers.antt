@@ -1,4 +1,5 @@
-use Rattle.std.proofs.Common.{ℕ, ◌<◌, ◌≤◌, ◌+◌, length, rules, arith}
+use Rattle.std.proofs.Common.{ℕ, ◌<◌, nat_lt, length, rules}
+use Rattle.std.specs.List.{list_all}
 use Rattle.sl_model.specs.Source.{item_at}
 use Rattle.sl_model.specs.Lawful.{IsValid}
 use Rattle.sl_laws.proofs.Valid.{valid-rest}
@@ -11,5 +12,4 @@ push_lines-requires g t c =
     let named = named-rest (pairs c.args.symbols.now) c.in-Some.item.now c.in-Some.items.now c.args.items.now c.in-Some.ensures.cases.0 c.requires.named in
     let rest : (p : ℕ) → p < length c.in-Some.items.now → IsValid g.A.Arch.language.isa (item_at c.in-Some.items.now p) =
     valid-rest g.A.Arch.language.isa c.in-Some.item.now c.in-Some.items.now c.args.items.now c.in-Some.ensures.cases.0 c.requires.valid in
-    let few : c.args.number + 1 + length c.in-Some.items.now ≤ 64 = omega (arith, c.in-Some.ensures.cases.1, c.requires.few) in
     search rules

@@ -1,6 +1,10 @@
 use Rattle.std.proofs.Common.{◌&&◌, ◌^◌, nat_lt, lt-ltb, arith}
 use Rattle.std.proofs.lemmas.Bool.{and_from}
+use Rattle.asm_reader.proofs.ForCallers.{unit_name_short}
 use Rattle.slothy_cli.proofs.plan.note_of.Goals as goal
+
+pub new-requires : goal.new-requires
+new-requires c = unit_name_short c.args.unit.now c.requires.shape
 
 pub returns-clause-whole : goal.returns-clause-whole
 returns-clause-whole c =

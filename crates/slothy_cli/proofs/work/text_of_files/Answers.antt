@@ -1,33 +1,23 @@
-use Rattle.std.proofs.Common.{◌≡◌, ◌≤◌, ℕ, List, Option, Err, length, sym, subst}
+use Rattle.std.proofs.Common.{sym, subst}
 use Rattle.sl_isa.specs.Language.{Language}
-use Rattle.sl_model.specs.declared.limits.TheConstants.{FILE_BYTES}
-use Rattle.slothy_cli.specs.declared.stop.File.TheVariants as which
 use Rattle.slothy_cli.specs.Command.{Command}
-use Rattle.slothy_cli.specs.Outcome.{WorkAnswers, input_reads, command_reads}
-use Rattle.slothy_cli.specs.Messages.{name_in}
-use Rattle.slothy_cli.specs.NamesShown.{names_of}
-use Rattle.slothy_cli.specs.Ending.{FilesRun, files_run, seen_of, AreOf, Follows}
-use Rattle.slothy_cli.specs.Shown.{shown, told}
-use Rattle.slothy_cli.proofs.Follows.{follows-read, follows-failed, follows-earlier}
+use Rattle.slothy_cli.specs.Outcome.{WorkAnswers, task_reads, command_reads}
+use Rattle.slothy_cli.specs.Ending.{Seen, files_run, seen_of, Follows}
+use Rattle.slothy_cli.specs.Shown.{shown, shown_task, told}
 use Rattle.slothy_cli.proofs.work.text_of_files.Goals as goal
 
-pub returns-in-Ok-clause-comes : goal.returns-in-Ok-clause-comes
+pub returns-in-OnCore-clause-comes : goal.returns-in-OnCore-clause-comes
 unfolding command_reads
-returns-in-Ok-clause-comes g c =
+returns-in-OnCore-clause-comes g c =
     let language : Language = g.A.Arch.language in
     let command : Command = shown c.args.command.now in
-    let bytes : List ℕ = c.deref.result.now in
-    let later : FilesRun = files_run g.F.Files.faults g.F.Files.given g.F.Files.chosen g.F.Files.broken c.read_file.new.files c.text_of_input.new.files in
-    let short : length bytes ≤ FILE_BYTES = subst (λ (b : List ℕ). length b ≤ FILE_BYTES) (sym c.deref.ensures.value) c.in-Ok.ensures.short in
-    let of : AreOf (g.F.Files.holds c.args.files.now (name_in (names_of c.names.result) which.Input)) bytes =
-    subst (AreOf (g.F.Files.holds c.args.files.now (name_in (names_of c.names.result) which.Input))) (sym c.deref.ensures.value) c.in-Ok.ensures.of_file in
-    let rest : Follows (seen_of command (g.F.Files.holds c.args.files.now) later) (WorkAnswers language) (input_reads language command bytes) (told (λ text. text.items) c.text_of_input.result) =
-    subst (λ (holds : List ℕ → Option (List ℕ)). Follows (seen_of command holds later) (WorkAnswers language) (input_reads language command bytes) (told (λ text. text.items) c.text_of_input.result)) c.in-Ok.ensures.same_files c.text_of_input.ensures.follows in
-    follows-read _ (WorkAnswers language) which.Input (input_reads language command) (names_of c.names.result) bytes _ c.names.ensures short of
-    (follows-earlier (g.F.Files.faults c.args.files.now) (seen_of command (g.F.Files.holds c.args.files.now) later) (WorkAnswers language) (input_reads language command bytes) _ c.in-Ok.ensures.never_falls rest)
+    let seen : Seen = seen_of command (g.F.Files.holds c.args.files.now) (files_run g.F.Files.faults g.F.Files.given g.F.Files.chosen g.F.Files.broken c.args.files.now c.text_on_core.new.files) in
+    subst (λ task. Follows seen (WorkAnswers language) (task_reads language command (shown_task task)) (told (λ text. text.items) c.text_on_core.result)) (sym c.in-OnCore.is) c.text_on_core.ensures.follows
 
-pub returns-in-Err-clause-comes : goal.returns-in-Err-clause-comes
+pub returns-in-Run-clause-comes : goal.returns-in-Run-clause-comes
 unfolding command_reads
-returns-in-Err-clause-comes g c =
+returns-in-Run-clause-comes g c =
     let language : Language = g.A.Arch.language in
-    follows-failed _ (WorkAnswers language) which.Input (input_reads language (shown c.args.command.now)) (names_of c.names.result) (Err c.in-Err.ending) c.names.ensures c.in-Err.ensures.failed
+    let command : Command = shown c.args.command.now in
+    let seen : Seen = seen_of command (g.F.Files.holds c.args.files.now) (files_run g.F.Files.faults g.F.Files.given g.F.Files.chosen g.F.Files.broken c.args.files.now c.text_of_run.new.files) in
+    subst (λ task. Follows seen (WorkAnswers language) (task_reads language command (shown_task task)) (told (λ text. text.items) c.text_of_run.result)) (sym c.in-Run.is) c.text_of_run.ensures.follows

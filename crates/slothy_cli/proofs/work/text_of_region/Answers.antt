@@ -1,30 +1,47 @@
-use Rattle.std.proofs.Common.{Ok, ap, ◌∙◌}
+use Rattle.std.proofs.Common.{◌≤◌, arith}
+use Rattle.sl_model.specs.declared.limits.TheConstants.{ITEMS}
 use Rattle.sl_isa.specs.Language.{Language}
-use Rattle.sl_isa.specs.SymbolViews.{pairs}
-use Rattle.asm_reader.specs.Reading.{Region}
 use Rattle.asm_reader.specs.RegionViews.{region_of}
-use Rattle.slothy_cli.specs.CostText.{cost_text}
-use Rattle.slothy_cli.specs.Outcome.{OptAnswers}
-use Rattle.slothy_cli.specs.Shown.{shown_aim}
-use Rattle.slothy_cli.proofs.Follows.{come-settled}
-use Rattle.slothy_cli.proofs.Tasks.{all-valid, follows-costing, follows-rescheduling}
+use Rattle.asm_reader.specs.Reading.{Region}
+use Rattle.core_text.specs.Core.{CoreTable}
+use Rattle.slothy_cli.specs.Command.{Job, wants_for}
+use Rattle.slothy_cli.specs.Inputs.{region_costs}
+use Rattle.slothy_cli.specs.Outcome.{JobAnswers, WorkAnswers, scheduling}
+use Rattle.slothy_cli.specs.Reads.{Given}
+use Rattle.slothy_cli.specs.Setting.{Setting}
+use Rattle.slothy_cli.specs.Shown.{shown_job}
+use Rattle.slothy_cli.proofs.Follows.{follows-known, follows-given, follows-refused, come-settled}
+use Rattle.slothy_cli.proofs.Valid.{job-few}
 use Rattle.slothy_cli.proofs.work.text_of_region.Goals as goal
 
-pub text_of_state-requires : goal.text_of_state-requires
-text_of_state-requires g c = record { valid = all-valid g.A.Arch.language.isa c.args.region.now.items.items c.requires.right.valid }
+pub region_costs-requires : goal.region_costs-requires
+region_costs-requires g c =
+    let most : (wants_for (shown_job c.args.job)).limit ≤ ITEMS = job-few (shown_job c.args.job) in
+    record { few = omega (arith, c.requires.right.few); valid = c.requires.right.valid }
 
-pub returns-in-Ok-clause-follows : goal.returns-in-Ok-clause-follows
-returns-in-Ok-clause-follows g c =
+pub text_of_setting-requires : goal.text_of_setting-requires
+text_of_setting-requires g c = record { setting = c.in-Ok.ensures.setting (wants_for (shown_job c.args.job)) c.requires.right }
+
+pub returns-in-Ok : goal.returns-in-Ok
+returns-in-Ok g c =
     let language : Language = g.A.Arch.language in
-    follows-costing _ language c.args.command.now.task c.in-Cost.latency (region_of c.args.region.now) _ c.in-Cost.is
-    (ap Ok (c.in-Ok.ensures ∙ ap (cost_text (language.printed (pairs c.args.region.now.symbols)) c.in-Cost.latency) c.deref.ensures.value))
-
-pub returns-in-Err-clause-follows : goal.returns-in-Err-clause-follows
-returns-in-Err-clause-follows g c = follows-costing _ g.A.Arch.language c.args.command.now.task c.in-Cost.latency (region_of c.args.region.now) _ c.in-Cost.is tt
-
-pub returns-in-Opt-clause-follows : goal.returns-in-Opt-clause-follows
-returns-in-Opt-clause-follows g c =
-    let language : Language = g.A.Arch.language in
+    let core : CoreTable = c.args.core.now in
     let region : Region = region_of c.args.region.now in
-    follows-rescheduling _ language c.args.command.now.task c.in-Opt.aim region _ c.in-Opt.is
-    (come-settled (λ text. text.items) c.opt_text.result c.ended.result (OptAnswers language (shown_aim c.in-Opt.aim) region) c.ended.ensures c.opt_text.ensures)
+    let job : Job = shown_job c.args.job in
+    let setting : Setting = record { core = core; region = region; costs = c.in-Ok.costs } in
+    record {
+      follows = λ seen.
+          follows-known seen (WorkAnswers language) (region_costs language core region) (λ costs. Given (scheduling job (record { core = core; region = region; costs = costs }))) c.in-Ok.costs _ c.in-Ok.ensures.costs
+          (follows-given seen (WorkAnswers language) (scheduling job setting) _ (come-settled (λ text. text.items) c.text_of_setting.result c.ended.result (JobAnswers language job setting) c.ended.ensures c.text_of_setting.ensures));
+    }
+
+pub returns-in-Err : goal.returns-in-Err
+returns-in-Err g c =
+    let language : Language = g.A.Arch.language in
+    let core : CoreTable = c.args.core.now in
+    let region : Region = region_of c.args.region.now in
+    let job : Job = shown_job c.args.job in
+    record {
+      follows = λ seen.
+          follows-refused seen (WorkAnswers language) (region_costs language core region) (λ costs. Given (scheduling job (record { core = core; region = region; costs = costs }))) c.in-Err.failure c.of.result c.of.ensures c.in-Err.ensures.costs;
+    }

@@ -1,4 +1,4 @@
-use Rattle.std.proofs.Common.{List, ℕ, Err, subst}
+use Rattle.std.proofs.Common.{List, ℕ, subst}
 use Rattle.sl_model.specs.Answers.{Gives}
 use Rattle.sl_model.specs.declared.instruction.Instr.{Instr}
 use Rattle.sl_isa.specs.Language.{Language}
@@ -26,4 +26,4 @@ returns-in-Ok-clause-follows g c =
 
 pub returns-in-Err-clause-follows : goal.returns-in-Err-clause-follows
 returns-in-Err-clause-follows g c =
-    follows-failed _ (WorkAnswers g.A.Arch.language) which.State (λ state. Given (running (region_of c.args.region.now) state)) (names_of c.names.result) (Err c.in-Err.ending) c.names.ensures c.in-Err.ensures.failed
+    follows-failed _ (WorkAnswers g.A.Arch.language) which.State (λ state. Given (running (region_of c.args.region.now) state)) (names_of c.names.result) c.in-Err.ending c.names.ensures c.in-Err.ensures.failed

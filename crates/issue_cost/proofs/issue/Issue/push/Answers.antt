@@ -1,10 +1,10 @@
-use Rattle.std.proofs.Common.{◌≡◌, ◌+◌, ◌≤◌, [], ◌∷◌, length, map, subst, sym, ap, ap₂, ◌∙◌, arith}
+use Rattle.std.proofs.Common.{◌≡◌, ◌+◌, ◌*◌, ◌^◌, ◌≤◌, max, [], ◌∷◌, length, map, subst, sym, ap, ap₂, ◌∙◌, arith}
 use Rattle.sl_model.specs.Cycles.{Issued, issued, issued_at, next_cycle, unit_free, row_of}
-use Rattle.issue_cost.specs.Timeline.{IsFreeBy}
+use Rattle.issue_cost.specs.Timeline.{IsFreeBy, start_from, start_of}
 use Rattle.issue_cost.specs.Tallies.{Tallies}
 use Rattle.issue_cost.specs.Entries.{pushed, AreCounted}
 use Rattle.issue_cost.proofs.IssueRule.{issued_at-length, length-issued_from, unit_free-taken, IsFreeBy-taken}
-use Rattle.issue_cost.proofs.EntryLemmas.{AreCounted-push, issued-push}
+use Rattle.issue_cost.proofs.EntryLemmas.{AreCounted-push, issued-push, start-entry, break_within-push}
 use Rattle.issue_cost.proofs.issue.Issue.push.Goals as goal
 
 pub after-tally-requires-clause-count_fits : goal.after-tally-requires-clause-count_fits
@@ -15,18 +15,27 @@ after-tally-requires-clause-count_fits c =
     let len : length (issued c.args.self.now.pushes) ≡ 0 + length c.args.self.now.pushes = length-issued_from [] c.args.self.now.pushes in
     omega arith
 
--- the cycle, by the width that the entry keeps
-cycle_is : (c : goal.After-push_reserved) → c.cycle_for-cycle.result ≡ next_cycle c.width.result c.args.unit c.args.ready (issued c.args.self.now.pushes)
+-- the cycle, by the numbers that the entry keeps
+cycle_is : (c : goal.After-push_reserved) → c.cycle_for-cycle.result ≡ next_cycle c.width.result c.args.unit c.max-ready.result (issued c.args.self.now.pushes)
 cycle_is c =
-    c.cycle_for-cycle.ensures.cycle ∙ ap (λ width. next_cycle width c.args.unit c.args.ready (issued c.args.self.now.pushes)) (sym c.width.ensures.width)
+    c.cycle_for-cycle.ensures.cycle
+    ∙ ap₂ (λ width ready. next_cycle width c.args.unit ready (issued c.args.self.now.pushes)) (sym c.width.ensures.width)
+    (sym (c.max-ready.ensures ∙ ap (λ start. max start c.args.ready) c.start.ensures.start))
 
 -- the tally with the new item, as the definition issues it
-tally_after : (c : goal.After-push_reserved) → Tallies (record { unit = c.args.unit; busy = c.busy-busy.result; cycle = next_cycle c.width.result c.args.unit c.args.ready (issued c.args.self.now.pushes) } ∷ issued c.args.self.now.pushes) c.after-tally.result
+tally_after : (c : goal.After-push_reserved) → Tallies (record { unit = c.args.unit; busy = c.busy-busy.result; cycle = next_cycle c.width.result c.args.unit c.max-ready.result (issued c.args.self.now.pushes) } ∷ issued c.args.self.now.pushes) c.after-tally.result
 tally_after c =
     subst
     (λ cycle. Tallies (record { unit = c.args.unit; busy = c.busy-busy.result; cycle = cycle } ∷ issued c.args.self.now.pushes) c.after-tally.result)
     (cycle_is c)
     (c.after-tally.ensures (issued c.args.self.now.pushes) c.tally.ensures.tally c.cycle_for-cycle.ensures.may_issue.unit_is_free)
+
+-- when the operands are ready in this pass
+ready_fits : (c : goal.After-push_reserved) → c.max-ready.result ≤ 2 ^ 30 + 256 * length (issued (map pushed c.self.inside.entries.items))
+ready_fits c =
+    let len : length (issued c.args.self.now.pushes) ≡ 0 + length c.args.self.now.pushes = length-issued_from [] c.args.self.now.pushes in
+    subst (λ v. c.max-ready.result ≤ 2 ^ 30 + 256 * length (issued v.pushes)) (sym c.self.view_is)
+    (omega (arith, c.max-ready.ensures, c.start.ensures.fits, c.requires.ready, len))
 
 pub invariant_of-self : goal.invariant_of-self
 invariant_of-self c = record {
@@ -34,20 +43,28 @@ invariant_of-self c = record {
   few = omega (arith, c.push_reserved.ensures.len, c.push_reserved.ensures.capacity, c.requires.room);
   counted = subst (λ entries. AreCounted [] entries) (sym c.push_reserved.ensures.items)
       (AreCounted-push [] c.self.inside.entries.items _ c.self.invariant.counted (record {
-        ready_fits = c.requires.ready;
+        ready_fits = ready_fits c;
         busy_fits = c.busy-busy.ensures.most;
         tally = subst
-            (λ v. Tallies (record { unit = c.args.unit; busy = c.busy-busy.result; cycle = next_cycle c.width.result c.args.unit c.args.ready (issued v.pushes) } ∷ issued v.pushes) c.after-tally.result)
+            (λ v. Tallies (record { unit = c.args.unit; busy = c.busy-busy.result; cycle = next_cycle c.width.result c.args.unit c.max-ready.result (issued v.pushes) } ∷ issued v.pushes) c.after-tally.result)
             (sym c.self.view_is) (tally_after c);
       }));
+  break_within = break_within-push c.self.inside.pass (length c.self.inside.entries.items) (length c.push_reserved.new.self.items) c.self.invariant.break_within
+      (omega (arith, c.push_reserved.ensures.len));
 }
 
 pub returns-clause-counted : goal.returns-clause-counted
 returns-clause-counted c =
     ap (λ entries. issued (map pushed entries)) c.push_reserved.ensures.items
     ∙ issued-push c.self.inside.entries.items _
-    ∙ ap (λ v. record { unit = c.args.unit; busy = c.busy-busy.result; cycle = next_cycle c.width.result c.args.unit c.args.ready (issued v.pushes) } ∷ issued v.pushes) c.self.view_is
+    ∙ ap (λ v. record { unit = c.args.unit; busy = c.busy-busy.result; cycle = next_cycle c.width.result c.args.unit c.max-ready.result (issued v.pushes) } ∷ issued v.pushes) c.self.view_is
     ∙ ap₂ (λ busy cycle. record { unit = c.args.unit; busy = busy; cycle = cycle } ∷ issued c.args.self.now.pushes) c.busy-busy.ensures.busy (sym (cycle_is c))
+
+pub returns-clause-started : goal.returns-clause-started
+returns-clause-started c =
+    ap (λ entries. start_from (map pushed entries) c.self.inside.pass) c.push_reserved.ensures.items
+    ∙ start-entry c.self.inside.entries.items _ c.self.inside.pass c.self.invariant.break_within
+    ∙ ap start_of c.self.view_is
 
 -- what was issued
 abbrev item : (c : goal.After-push_reserved) → Issued

@@ -8,4 +8,5 @@ invariant_of-result c = record {
   small = omega (arith, c.in_ok-entries.ensures.exact);
   few = omega (arith, c.in_ok-entries.ensures.len);
   counted = subst (λ entries. AreCounted [] entries) (sym c.in_ok-entries.ensures.items) tt;
+  break_within = tt;
 }

@@ -1,0 +1,2 @@
+pub mod UnitSets
+pub mod RowsSoFar

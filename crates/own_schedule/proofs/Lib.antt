@@ -1,0 +1,4 @@
+pub mod FirstLeast
+pub mod EntryUnits
+pub mod OneMore
+pub mod InOrder

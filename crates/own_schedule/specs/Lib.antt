@@ -1,0 +1,2 @@
+pub mod OwnSchedule
+pub mod Issuing
