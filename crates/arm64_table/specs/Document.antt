@@ -625,6 +625,7 @@ access_row mnemonic store pair t base addressing =
       pair = pair;
       bank = t.bank;
       width = t.width;
+      signed = false;
       addressing = addressing;
     }))
 

@@ -2,8 +2,6 @@
 #![tactic(auto)]
 
 mod arch_impl;
-mod executing;
-mod reading;
 mod rows;
 
 /// AArch64.

@@ -361,7 +361,7 @@ macro_rules! access {
 
 macro_rules! transfer {
     ($store:expr, $pair:expr, $bank:ident, $width:ident, $addressing:ident) => {
-        Meaning::Memory(Transfer { store: $store, pair: $pair, bank: Bank::$bank, width: Width::$width, addressing: Addressing::$addressing })
+        Meaning::Memory(Transfer { store: $store, pair: $pair, bank: Bank::$bank, width: Width::$width, signed: false, addressing: Addressing::$addressing })
     };
 }
 

@@ -2,25 +2,29 @@
 use Rattle.std.proofs.Common.{◌≡◌, ℕ, zero, suc, ◌+◌, ◌-◌, Bool, true, false, cond, not, ◌&&◌, ◌||◌, nat_eq, eqb, slice_index, List, [], ◌∷◌, ◌++◌, length, take, drop, codes, refl, ap, sym, ◌∙◌, subst, arith, append-nil, take_all}
 use Rattle.std.specs.List.{list_all, list_any, starts_with, AllByRecursion}
 use Rattle.sl_model.specs.declared.text.Comments.{Comments}
-use Rattle.sl_model.specs.declared.text.Comments.TheVariants.{Slash, SlashAt}
+use Rattle.sl_model.specs.declared.text.Comments.TheVariants.{Slash, SlashAt, Taken}
+use Rattle.sl_model.specs.declared.instruction.ArchName.{ArchName}
+use Rattle.sl_model.specs.declared.instruction.ArchName.TheVariants.{Arm64, M4}
 use Rattle.sl_model.specs.declared.text.TokenKind.{TokenKind}
 use Rattle.sl_model.specs.declared.text.TokenKind.TheVariants.{Word, Number, Mark, Comment}
 use Rattle.sl_model.specs.Text.{is_blank, holds}
-use Rattle.sl_model.specs.Token.{Lexeme, tokens, first_token, lexeme, tokens_from, tokens_at, leaves_open, open_behind}
-use Rattle.sl_laws.proofs.Texts.{starts_take, first_token-block}
+use Rattle.sl_model.specs.Token.{Lexeme, tokens, begins_block_comment, first_token, lexeme, tokens_from, tokens_at, leaves_open, open_behind}
+use Rattle.sl_laws.proofs.Texts.{starts_take, first_token-block, taken_begins}
 use Rattle.sl_model.specs.declared.instruction.Instr.{Instr}
+use Rattle.sl_isa.specs.Arch.{comments_of}
 use Rattle.sl_isa.specs.Language.{Language, IsSpelledAt, is_of_instruction, is_instruction_token}
 use Rattle.sl_model.specs.TokenTests.{is_comment, is_mark, marks}
-use Rattle.asm_reader.specs.Statements.{statements, words_of}
+use Rattle.macro_expand.specs.Source.{statements}
+use Rattle.asm_reader.specs.Lines.{words_of}
 use Rattle.asm_reader.proofs.ForCallers.{statements_whole}
 use Rattle.std.proofs.lemmas.Bool.{and_parts}
 
 -- ---- a comment to the line's end
 
-comment_first : (comments : Comments) (rest : List ℕ) → first_token comments (47 ∷ 47 ∷ rest) ≡ (Comment, length (47 ∷ 47 ∷ rest))
+comment_first : (name : ArchName) (rest : List ℕ) → first_token (comments_of name) (47 ∷ 47 ∷ rest) ≡ (Comment, length (47 ∷ 47 ∷ rest))
 unfolding first_token
-comment_first Slash rest = refl
-comment_first SlashAt rest = refl
+comment_first Arm64 rest = refl
+comment_first M4 rest = refl
 
 taken_whole : (comments : Comments) (place : ℕ) (text : List ℕ) → tokens_from comments place (length text) text ≡ []
 unfolding tokens_from
@@ -31,12 +35,13 @@ taken_whole comments place (c ∷ text) = taken_whole comments (place + 1) text
 abbrev pub line_comment : ℕ → List ℕ → Lexeme
 line_comment place rest = record { kind = Comment; text = 47 ∷ 47 ∷ rest; start = place }
 
-pub comment_tokens : (comments : Comments) (place : ℕ) (rest : List ℕ) → tokens_from comments place 0 (47 ∷ 47 ∷ rest) ≡ line_comment place rest ∷ []
+pub comment_tokens : (name : ArchName) (place : ℕ) (rest : List ℕ) → tokens_from (comments_of name) place 0 (47 ∷ 47 ∷ rest) ≡ line_comment place rest ∷ []
 unfolding tokens_from
-comment_tokens comments place rest =
+comment_tokens name place rest =
+    let comments = comments_of name in
     let text = 47 ∷ 47 ∷ rest in
     let left : length text - 1 ≡ length (47 ∷ rest) = omega arith in
-    ap (λ found. lexeme found place text ∷ tokens_from comments (place + 1) (found.1 - 1) (47 ∷ rest)) (comment_first comments rest)
+    ap (λ found. lexeme found place text ∷ tokens_from comments (place + 1) (found.1 - 1) (47 ∷ rest)) (comment_first name rest)
     ∙ ap (λ whole. record { kind = Comment; text = whole; start = place } ∷ tokens_from comments (place + 1) (length text - 1) (47 ∷ rest)) (take_all (length text) text (omega arith))
     ∙ ap (λ n. line_comment place rest ∷ tokens_from comments (place + 1) n (47 ∷ rest)) left
     ∙ ap (λ more. line_comment place rest ∷ more) (taken_whole comments (place + 1) (47 ∷ rest))
@@ -50,10 +55,16 @@ closed_by : (text : List ℕ) (n : ℕ) (b : Bool) → starts_with nat_eq (take 
 closed_by text n true is e = cc (starts_take (codes "/*") text n is, e)
 closed_by text n false is e = ap (λ b. b && not (holds (codes "*/") (drop 2 (take n text)))) is
 
-closed_first : (comments : Comments) (text : List ℕ) (b : Bool) → starts_with nat_eq text (codes "/*") ≡ b
+closed_first_with : (comments : Comments) (text : List ℕ) (b : Bool) → (starts_with nat_eq text (codes "/*") ≡ true → begins_block_comment comments text ≡ true) → starts_with nat_eq text (codes "/*") ≡ b
     → is_comment (first_token comments text).0 ≡ false → leaves_open false (take (first_token comments text).1 text) ≡ false
-closed_first comments text true is e = cc (ap (λ found. is_comment found.0) (first_token-block comments text is), e)
-closed_first comments text false is e = closed_by text (first_token comments text).1 (starts_with nat_eq (take (first_token comments text).1 text) (codes "/*")) refl is
+closed_first_with comments text true block is e = cc (ap (λ found. is_comment found.0) (first_token-block comments text (block is)), e)
+closed_first_with comments text false block is e = closed_by text (first_token comments text).1 (starts_with nat_eq (take (first_token comments text).1 text) (codes "/*")) refl is
+
+closed_first : (comments : Comments) (text : List ℕ)
+    → is_comment (first_token comments text).0 ≡ false → leaves_open false (take (first_token comments text).1 text) ≡ false
+closed_first Slash text e = closed_first_with Slash text (starts_with nat_eq text (codes "/*")) (λ begins. begins) refl e
+closed_first SlashAt text e = closed_first_with SlashAt text (starts_with nat_eq text (codes "/*")) (λ begins. begins) refl e
+closed_first Taken text e = ap (λ b. b && not (holds (codes "*/") (drop 2 (take (first_token Taken text).1 text)))) (taken_begins text)
 
 closed_step : (blank : Bool) (token : Lexeme) (behind rest : List Lexeme) → IsClosed token → AllByRecursion IsClosed behind → AllByRecursion IsClosed rest
     → AllByRecursion IsClosed (cond blank behind (token ∷ rest))
@@ -67,7 +78,7 @@ closed_from comments place (suc taken) (c ∷ text) = closed_from comments (plac
 closed_from comments place zero (c ∷ text) =
     closed_step (is_blank c) (lexeme (first_token comments (c ∷ text)) place (c ∷ text)) (tokens_from comments (place + 1) 0 text)
     (tokens_from comments (place + 1) ((first_token comments (c ∷ text)).1 - 1) text)
-    (closed_first comments (c ∷ text) (starts_with nat_eq (c ∷ text) (codes "/*")) refl)
+    (closed_first comments (c ∷ text))
     (closed_from comments (place + 1) 0 text) (closed_from comments (place + 1) ((first_token comments (c ∷ text)).1 - 1) text)
 
 -- ---- the words of an instruction, and a comment behind them
@@ -139,20 +150,20 @@ line_closed comments line words note is =
     ∙ words_closed words (line_comment is.place (codes " @slothy:" ++ note) ∷ []) is.plain (subst (AllByRecursion IsClosed) is.tokens_are (closed_from comments 0 0 line))
 
 -- the line of an instruction
-pub item_tokens : (language : Language) (comments : Comments) (text note : List ℕ) (i : Instr) (spelled : IsSpelledAt language [] comments text 8 (codes " // @slothy:" ++ note) i)
-    → IsLine comments (codes "        " ++ (text ++ (codes " // @slothy:" ++ note))) spelled.words note
+pub item_tokens : (language : Language) (name : ArchName) (text note : List ℕ) (i : Instr) (spelled : IsSpelledAt language [] (comments_of name) text 8 (codes " // @slothy:" ++ note) i)
+    → IsLine (comments_of name) (codes "        " ++ (text ++ (codes " // @slothy:" ++ note))) spelled.words note
 unfolding tokens_at tokens_from
-item_tokens language comments text note i spelled = record {
+item_tokens language name text note i spelled = record {
   place = 8 + length text + 1;
-  tokens_are = spelled.tokens ∙ ap (λ more. spelled.words ++ more) (comment_tokens comments (8 + length text + 1) (codes " @slothy:" ++ note));
+  tokens_are = spelled.tokens ∙ ap (λ more. spelled.words ++ more) (comment_tokens name (8 + length text + 1) (codes " @slothy:" ++ note));
   plain = spelled.plain;
 }
 
 -- the first line of a region
-pub head_tokens : (comments : Comments) (note : List ℕ) → IsLine comments (codes "        // @slothy:region" ++ note) [] (codes "region" ++ note)
+pub head_tokens : (name : ArchName) (note : List ℕ) → IsLine (comments_of name) (codes "        // @slothy:region" ++ note) [] (codes "region" ++ note)
 unfolding tokens_at tokens_from
-head_tokens comments note = record {
+head_tokens name note = record {
   place = 8;
-  tokens_are = comment_tokens comments 8 (codes " @slothy:region" ++ note);
+  tokens_are = comment_tokens name 8 (codes " @slothy:region" ++ note);
   plain = refl;
 }

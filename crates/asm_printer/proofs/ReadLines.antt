@@ -1,5 +1,5 @@
 -- A printed region, line by line.
-use Rattle.std.proofs.Common.{◌≡◌, ℕ, ◌+◌, ◌<◌, ◌≤◌, ◌-◌, nat_lt, take, drop, slice_get, Result, if◌then◌else◌, Bool, true, false, cond, not, ◌&&◌, eqb, List, [], ◌∷◌, ◌++◌, length, map, codes, None, Some, Ok, inl, inr, refl, ap, sym, ◌∙◌, subst, arith, append_assoc, append-nil, length-append, lt-ltb}
+use Rattle.std.proofs.Common.{◌≡◌, ℕ, ◌+◌, ◌<◌, ◌≤◌, ◌-◌, nat_lt, slice_get, Result, Bool, true, false, cond, not, ◌&&◌, eqb, List, [], ◌∷◌, ◌++◌, length, map, codes, None, Some, Ok, inl, inr, refl, ap, sym, ◌∙◌, subst, arith, append_assoc, append-nil, length-append, lt-ltb}
 use Rattle.std.specs.List.{list_all, AllByRecursion}
 use Rattle.std.proofs.lemmas.List.Folds.{list_all-append}
 use Rattle.sl_model.specs.declared.instruction.Instr.{Instr}
@@ -17,12 +17,12 @@ use Rattle.asm_reader.specs.declared.reasons.Reason.TheVariants as reason
 use Rattle.asm_reader.specs.declared.reasons.Wants.{Wants}
 use Rattle.asm_reader.specs.Notes.{Remark, Said, of_item, of_region, note_said}
 use Rattle.asm_reader.specs.declared.reasons.Refusal.{Refusal}
-use Rattle.std.specs.Str.{str_eq_ignore_ascii_case}
 use Rattle.std.proofs.lemmas.List.{length-map}
 use Rattle.asm_printer.proofs.NoteWords.{IsSaid}
-use Rattle.asm_reader.specs.Statements.{Statement, words_of, note_in, on_line, outside, statements_of}
+use Rattle.asm_reader.specs.Lines.{words_of, note_in, note_text, statement_at, on_line, outside, statements_of}
+use Rattle.asm_reader.specs.Statements.{Statement}
 use Rattle.asm_reader.specs.Drafts.{Draft, refused, no_draft, most_items, longer, with_item, with_last, marked, with_remark, may_say, with_said, with_noted}
-use Rattle.asm_reader.specs.Reading.{Progress, no_progress, right_note, instr_or, instr_of, pairs_after, said_by, said_of, with_statement, with_statements, unless_at, body_statements, body_read, region_alone}
+use Rattle.asm_reader.specs.Reading.{Progress, no_progress, right_note, instr_or, instr_of, pairs_after, said_by, with_statement, with_statements, unless_at, set_read, region_alone}
 use Rattle.asm_reader.specs.Unset.{first_unset}
 use Rattle.asm_printer.specs.Lines.{Printed, IsPrinted, IsLineEnd, item_line, item_lines, region_lines, printed_items, is_inside_line}
 use Rattle.asm_printer.proofs.Concrete.{reads_concrete, read-unmarked, none-unset}
@@ -137,9 +137,7 @@ not_less : (n most : ℕ) → most ≤ n → nat_lt n most ≡ false
 not_less n most h = grind (arith, nat_tests)
 
 note_there : (place : ℕ) (note : List ℕ) → note_in (Some (line_comment place (codes " @slothy:" ++ note))) ≡ Some note
-note_there place note =
-    let text : List ℕ = codes "// @slothy:" ++ note in
-    ap (λ b. if (if b then false else str_eq_ignore_ascii_case (take 11 text) (codes "// @slothy:")) then Some (drop 11 text) else None) (not_less (length text) 11 (omega arith))
+note_there place note = refl
 
 -- ---- what each line adds
 
@@ -171,7 +169,7 @@ module _ (language : Language) (wants : Wants) (some : (i : Instr) → language.
 
   -- the note behind a line's words
   note_behind : (line : ℕ) (words : List Lexeme) (place : ℕ) (note : List ℕ) (said : Said) → note_said line note ≡ Some said
-      → said_of (record { line = line; tokens = words ++ line_comment place (codes " @slothy:" ++ note) ∷ [] }) ≡ Ok (Some said)
+      → said_by line (note_text (words ++ line_comment place (codes " @slothy:" ++ note) ∷ [])) ≡ Ok (Some said)
   note_behind line words place note said is =
       let tokens : List Lexeme = words ++ line_comment place (codes " @slothy:" ++ note) ∷ [] in
       ap (said_by line) (ap note_in (last_token words (line_comment place (codes " @slothy:" ++ note))) ∙ note_there place note)
@@ -195,12 +193,12 @@ module _ (language : Language) (wants : Wants) (some : (i : Instr) → language.
 
   -- a statement of an instruction, with its note
   statement_added : (line : ℕ) (draft : Draft) (tokens words : List Lexeme) (i : Instr) (remark : Remark) → words_of tokens ≡ words → knows_words language [] words ≡ true → language.reads [] words ≡ Ok i
-      → said_of (record { line = line; tokens = tokens }) ≡ Ok (Some (of_item remark)) → may_say (has_access (language.isa.info i.form)) (Some (of_item remark)) ≡ true
+      → said_by line (note_text tokens) ≡ Ok (Some (of_item remark)) → may_say (has_access (language.isa.info i.form)) (Some (of_item remark)) ≡ true
       → length draft.items < most_items wants
-      → with_statement language wants (plain_read draft) (record { line = line; tokens = tokens }) ≡ Ok (plain_read (with_remark (longer (has_access (language.isa.info i.form)) line draft i) remark))
+      → with_statement language wants (plain_read draft) (statement_at line tokens) ≡ Ok (plain_read (with_remark (longer (has_access (language.isa.info i.form)) line draft i) remark))
   statement_added line draft tokens words i remark are known read said may room =
       let accesses = has_access (language.isa.info i.form) in
-      let statement : Statement = record { line = line; tokens = tokens } in
+      let statement : Statement = statement_at line tokens in
       let added : with_noted wants accesses line draft (Some (of_item remark)) i ≡ Ok (with_remark (longer accesses line draft i) remark) =
       ap (λ b. cond b (with_item wants accesses line draft i >>= λ more. Ok (with_said more (Some (of_item remark)))) (refused line reason.TagBad)) may
       ∙ ap (λ r. r >>= λ more. Ok (with_said more (Some (of_item remark)))) (item_added accesses line draft i room) in
@@ -209,21 +207,23 @@ module _ (language : Language) (wants : Wants) (some : (i : Instr) → language.
       ∙ ap (λ (pairs : List Pair). Ok (record { draft = with_remark (longer accesses line draft i) remark; pairs = pairs })) (ap (pairs_after language []) are ∙ no_names words known)
 
   -- and one without words, of which the note is of the region
-  head_added : (line : ℕ) (draft : Draft) (tokens : List Lexeme) (mask : ℕ) → words_of tokens ≡ [] → said_of (record { line = line; tokens = tokens }) ≡ Ok (Some (of_region mask))
-      → with_statement language wants (plain_read draft) (record { line = line; tokens = tokens }) ≡ Ok (plain_read (with_said draft (Some (of_region mask))))
-  head_added line draft tokens mask are said =
-      parts_read language wants (plain_read draft) (record { line = line; tokens = tokens }) None (Some (of_region mask)) (ap (instr_of language [] line) are) said
+  head_added : (line : ℕ) (draft : Draft) (tokens : List Lexeme) (mask : ℕ) → draft.invoked ≡ false → words_of tokens ≡ [] → said_by line (note_text tokens) ≡ Ok (Some (of_region mask))
+      → with_statement language wants (plain_read draft) (statement_at line tokens) ≡ Ok (plain_read (with_said draft (Some (of_region mask))))
+  head_added line draft tokens mask free are said =
+      let statement : Statement = statement_at line tokens in
+      parts_read language wants (plain_read draft) statement None (Some (of_region mask)) (ap (instr_of language [] line) are) said
+      ∙ ap (λ b. cond (not b) (Ok (with_said draft (Some (of_region mask)))) (refused line reason.TagBad) >>= λ more. Ok (named_draft language (plain_read draft) statement more)) free
       ∙ ap (λ (pairs : List Pair). Ok (record { draft = with_said draft (Some (of_region mask)); pairs = pairs })) (ap (pairs_after language []) are)
 
   -- a line of words and a comment
   line_added : (number : ℕ) (draft more : Progress) (line end : List ℕ) (lines : List (List ℕ)) (words : List Lexeme) (note : List ℕ) → IsWhole line end → (is : IsLine comments line words note)
-      → with_statement language wants draft (record { line = number; tokens = words ++ line_comment is.place (codes " @slothy:" ++ note) ∷ [] }) ≡ Ok more
+      → with_statement language wants draft (statement_at number (words ++ line_comment is.place (codes " @slothy:" ++ note) ∷ [])) ≡ Ok more
       → with_statements language wants draft (statements_of comments false number ((line ++ end) ∷ lines)) ≡ with_statements language wants more (statements_of comments false (number + 1) lines)
   line_added number draft more line end lines words note whole is added =
-      let statement : Statement = record { line = number; tokens = words ++ line_comment is.place (codes " @slothy:" ++ note) ∷ [] } in
+      let statement : Statement = statement_at number (words ++ line_comment is.place (codes " @slothy:" ++ note) ∷ []) in
       let all : with_statements language wants draft (on_line number (outside false (tokens comments false (without_end (line ++ end))))) ≡ Ok more =
       ap (λ text. with_statements language wants draft (on_line number (tokens comments false text))) whole.before
-      ∙ ap (λ each. with_statements language wants draft (map (λ each. record { line = number; tokens = each }) each)) (line_statements comments line words note is)
+      ∙ ap (λ each. with_statements language wants draft (map (statement_at number) each)) (line_statements comments line words note is)
       ∙ statement_read language wants draft more statement [] added
       ∙ no_statements language wants more in
       line_read language wants comments false number draft more (line ++ end) lines all
@@ -249,7 +249,7 @@ module _ (language : Language) (wants : Wants) (some : (i : Instr) → language.
       let whole = body_whole language comments first end are.0 ends in
       let spelled = are.0.spelled in
       let lines = whole_lines (item_lines end more) in
-      let is = item_tokens language comments first.text first.note first.item spelled in
+      let is = item_tokens language language.isa.name first.text first.note first.item spelled in
       let all : map unmarked next.items ≡ map unmarked draft.items ++ unmarked first.item ∷ [] = marked-last (marked draft.tags remark) draft.items i refl in
       let one : length (map unmarked draft.items ++ unmarked first.item ∷ []) ≡ length draft.items + 1 = length-append (map unmarked draft.items) (unmarked first.item ∷ []) ∙ ap (λ n. n + 1) (length-map draft.items unmarked) in
       let count : length next.items ≡ length draft.items + 1 = sym (length-map next.items unmarked) ∙ ap length all ∙ one in
@@ -277,23 +277,23 @@ module _ (language : Language) (wants : Wants) (some : (i : Instr) → language.
   pub region_added : (note end : List ℕ) (mask : ℕ) (printed : List Printed) → list_all is_inside_line note ≡ true → note_said 1 (codes "region" ++ note) ≡ Some (of_region mask) → IsLineEnd end
       → AllByRecursion (IsPrinted language comments) printed → AllByRecursion (IsNoted language.isa) printed
       → length printed ≤ most_items wants → list_all reads_concrete (map unmarked (printed_items printed)) ≡ true → ReadsAs (region_alone language wants (region_lines note end printed)) (map unmarked (printed_items printed))
-  unfolding body_read
+  unfolding region_alone
   region_added note end mask printed inside says ends are noted room concrete =
       let whole = head_whole note end inside ends in
-      let is = head_tokens comments note in
+      let is = head_tokens language.isa.name note in
       let headed : Draft = with_said no_draft (Some (of_region mask)) in
       let fit : 0 + length printed ≤ most_items wants = omega arith in
       let rest = items_added end 2 headed printed ends are noted fit in
-      let read : with_statements language wants no_progress (body_statements language false 1 (region_lines note end printed)) ≡ Ok rest.new =
+      let read : with_statements language wants no_progress (statements_of comments false 1 (whole_lines (region_lines note end printed))) ≡ Ok rest.new =
       ap (λ ls. with_statements language wants no_progress (statements_of comments false 1 ls)) (whole.first (item_lines end printed))
       ∙ line_added 1 no_progress (plain_read headed) (head_of note) end (whole_lines (item_lines end printed)) [] (codes "region" ++ note) whole is
-      (head_added 1 no_draft (line_comment is.place (codes " @slothy:region" ++ note) ∷ []) mask (line_words comments (head_of note) [] (codes "region" ++ note) is)
+      (head_added 1 no_draft (line_comment is.place (codes " @slothy:region" ++ note) ∷ []) mask refl (line_words comments (head_of note) [] (codes "region" ++ note) is)
       (note_behind 1 [] is.place (codes "region" ++ note) (of_region mask) says))
       ∙ rest.is in
       let set : first_unset [] rest.new.draft.items ≡ None = none-unset [] rest.new.draft.items (sym (read-unmarked rest.new.draft.items) ∙ ap (list_all reads_concrete) rest.same ∙ concrete) in
       record {
         new = rest.new;
-        is = ap (λ r. r >>= λ all. unless_at reason.SymbolUnset (first_unset [] all.draft.items) all) read ∙ ap (λ line. unless_at reason.SymbolUnset line rest.new) set;
+        is = ap (λ r. r >>= set_read) read ∙ ap (λ line. unless_at reason.SymbolUnset line rest.new) set;
         same = rest.same;
         plain = rest.plain;
       }

@@ -45,7 +45,7 @@ count_said draft (Some (of_region mask)) = refl
 
 count_note : (line : ℕ) (draft more : Draft) (said : Option Said) → with_note line draft said ≡ Ok more → length more.items ≡ length draft.items
 count_note line draft more said e =
-    let so = held (may_stand line draft.awaiting said) (Ok (with_said draft said)) _ more e in
+    let so = held (may_stand line draft said) (Ok (with_said draft said)) _ more e in
     let same : with_said draft said ≡ more = cc in
     ap (λ (d : Draft). length d.items) (sym same) ∙ count_said draft said
 

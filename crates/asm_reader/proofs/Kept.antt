@@ -19,14 +19,17 @@ use Rattle.sl_isa.proofs.ForCallers.{IsFrontOf, with_pairs-front, have_pairs-wit
 use Rattle.sl_laws.proofs.Valid.{valid-on_line, valid-marked, valid-push}
 use Rattle.asm_reader.specs.declared.draft.Awaiting.{Awaiting}
 use Rattle.asm_reader.specs.declared.reasons.Reason.TheVariants as reason
+use Rattle.asm_reader.specs.declared.reasons.Refusal.{Refusal}
 use Rattle.asm_reader.specs.declared.reasons.Wants.{Wants}
 use Rattle.sl_model.specs.declared.limits.TheConstants.{READ_ITEMS}
 use Rattle.asm_reader.specs.Notes.{NoteValue, Remark, Said, of_item, of_region, is_tag}
-use Rattle.asm_reader.specs.Statements.{Statement, words_of, note_text}
+use Rattle.asm_reader.specs.Entries.{Entry, Begun, Expanded, Stated, Told, entries}
+use Rattle.asm_reader.specs.Statements.{Statement}
+use Rattle.macro_expand.specs.Source.{Piece}
 use Rattle.asm_reader.specs.Tags.{with_tag}
 use Rattle.asm_reader.specs.Unset.{first_unset}
-use Rattle.asm_reader.specs.Drafts.{Draft, refused, no_draft, untold, longer, most_items, with_item, with_last, marked, with_remark, first_mask, with_said, may_say, awaits, with_note, with_noted, with_parts}
-use Rattle.asm_reader.specs.Reading.{Progress, no_progress, instr_or, instr_of, pairs_after, said_of, with_statement, with_statements, unless_at, body_statements, body_read, region_from}
+use Rattle.asm_reader.specs.Drafts.{Draft, refused, no_draft, anew, untold, longer, most_items, with_item, with_last, marked, with_remark, first_mask, with_said, may_say, awaits, with_note, with_noted, with_parts}
+use Rattle.asm_reader.specs.Reading.{Progress, no_progress, instr_or, instr_of, pairs_after, said_by, with_statement, standing, wordless, with_entry, with_entries, set_read, pieces_read, region_from}
 use Rattle.asm_reader.specs.Regions.{is_right_tag, is_marked_right, is_right_unit, IsRegion}
 use Rattle.asm_reader.proofs.Answered.{taken, chain_read, held, kept_at}
 use Rattle.asm_reader.proofs.LastOnes.{length_last, last_of_front, all_last}
@@ -176,6 +179,7 @@ module _ (language : Language) (lawful : IsLanguage language) (wants : Wants) wh
   kept_note : (pairs : List Pair) (line : ℕ) (draft more : Draft) (said : Option Said) → IsRightSaid said → IsDraft language wants pairs draft → with_note line draft said ≡ Ok more → IsDraft language wants pairs more
   kept_note pairs line draft more None right kept e = let same : draft ≡ more = cc in subst (IsDraft language wants pairs) same kept
   kept_note pairs line draft more (Some (of_region mask)) right kept e =
+      let so = held (not draft.invoked) (Ok (with_said draft (Some (of_region mask)))) _ more e in
       let same : record draft { mask = first_mask draft.mask mask } ≡ more = cc in
       subst (IsDraft language wants pairs) same (kept_mask pairs draft (first_mask draft.mask mask) kept)
   kept_note pairs line draft more (Some (of_item remark)) right kept e = of draft.awaiting refl e
@@ -223,28 +227,53 @@ module _ (language : Language) (lawful : IsLanguage language) (wants : Wants) wh
   kept_statement : (read more : Progress) (statement : Statement) → IsDraft language wants read.pairs read.draft → with_statement language wants read statement ≡ Ok more → IsDraft language wants more.pairs more.draft
   unfolding with_statement
   kept_statement read more statement kept e =
-      let words : List Lexeme = words_of statement.tokens in
-      let first = chain_read (instr_of language read.pairs statement.line words) (λ instr. said_of statement >>= λ said. with_parts language.isa wants statement.line read.draft said instr >>= λ draft. Ok (named_draft language read statement draft)) more e in
-      let second = chain_read (said_of statement) (λ said. with_parts language.isa wants statement.line read.draft said first.0 >>= λ draft. Ok (named_draft language read statement draft)) more first.1.1 in
+      let words : List Lexeme = statement.words in
+      let first = chain_read (instr_of language read.pairs statement.line words) (λ instr. said_by statement.line statement.note >>= λ said. with_parts language.isa wants statement.line read.draft said instr >>= λ draft. Ok (named_draft language read statement draft)) more e in
+      let second = chain_read (said_by statement.line statement.note) (λ said. with_parts language.isa wants statement.line read.draft said first.0 >>= λ draft. Ok (named_draft language read statement draft)) more first.1.1 in
       let third = chain_read (with_parts language.isa wants statement.line read.draft second.0 first.0) (λ draft. Ok (named_draft language read statement draft)) more second.1.1 in
       let same : named_draft language read statement third.0 ≡ more = cc in
       subst (λ (p : Progress). IsDraft language wants p.pairs p.draft) same
-      (kept_parts read.pairs statement.line read.draft third.0 second.0 words first.0 first.1.0 (right_by statement.line (note_text statement.tokens) second.0 second.1.0) (kept_after read.pairs words read.draft kept) third.1.0)
+      (kept_parts read.pairs statement.line read.draft third.0 second.0 words first.0 first.1.0 (right_by statement.line statement.note second.0 second.1.0) (kept_after read.pairs words read.draft kept) third.1.0)
 
-  kept_statements : (read more : Progress) (statements : List Statement) → IsDraft language wants read.pairs read.draft → with_statements language wants read statements ≡ Ok more → IsDraft language wants more.pairs more.draft
-  unfolding with_statements
-  kept_statements read more [] kept e = let same : read ≡ more = cc in subst (λ (p : Progress). IsDraft language wants p.pairs p.draft) same kept
-  kept_statements read more (statement ∷ statements) kept e =
-      let both = chain_read (with_statement language wants read statement) (λ next. with_statements language wants next statements) more e in
-      kept_statements both.0 more statements (kept_statement read both.0 statement kept both.1.0) both.1.1
+  -- where a row begins, or behind an invocation
+  kept_anew : (pairs : List Pair) (draft : Draft) (invoked : Bool) → IsDraft language wants pairs draft → IsDraft language wants pairs (anew invoked draft)
+  kept_anew pairs draft invoked kept = record {
+    few = kept.few;
+    valid = kept.valid;
+    spelled = kept.spelled;
+    marks = kept.marks;
+    names = kept.names;
+    noted = kept.noted;
+    units = kept.units;
+    awaited = tt;
+  }
+
+  kept_standing : (read more : Progress) (invoked : Bool) (answer : Result Progress Refusal) → IsDraft language wants read.pairs read.draft → answer ≡ Ok (standing invoked read) → answer ≡ Ok more → IsDraft language wants more.pairs more.draft
+  kept_standing read more invoked answer kept is e =
+      let same : standing invoked read ≡ more = cc in
+      subst (λ (p : Progress). IsDraft language wants p.pairs p.draft) same (kept_anew read.pairs read.draft invoked kept)
+
+  kept_entry : (read more : Progress) (entry : Entry) → IsDraft language wants read.pairs read.draft → with_entry language wants read entry ≡ Ok more → IsDraft language wants more.pairs more.draft
+  unfolding with_entry
+  kept_entry read more Begun kept e = kept_standing read more false _ kept refl e
+  kept_entry read more Expanded kept e = kept_standing read more true _ kept refl e
+  kept_entry read more (Stated statement) kept e = kept_statement read more statement kept e
+  kept_entry read more (Told line note) kept e = kept_statement read more (wordless line note) kept e
+
+  kept_entries : (read more : Progress) (all : List Entry) → IsDraft language wants read.pairs read.draft → with_entries language wants read all ≡ Ok more → IsDraft language wants more.pairs more.draft
+  unfolding with_entries
+  kept_entries read more [] kept e = let same : read ≡ more = cc in subst (λ (p : Progress). IsDraft language wants p.pairs p.draft) same kept
+  kept_entries read more (entry ∷ all) kept e =
+      let both = chain_read (with_entry language wants read entry) (λ next. with_entries language wants next all) more e in
+      kept_entries both.0 more all (kept_entry read both.0 entry kept both.1.0) both.1.1
 
   -- All that is read is a region.
-  pub is_region : (parts : Parts) (inside : Bool) (first : ℕ) (text : List ℕ) (read : Progress) → body_read language wants inside first text ≡ Ok read → IsRegion language wants (region_from parts read)
-  unfolding body_read
-  is_region parts inside first text read e =
-      let both = chain_read (with_statements language wants no_progress (body_statements language inside first text)) (λ all. unless_at reason.SymbolUnset (first_unset [] all.draft.items) all) read e in
+  pub is_region : (parts : Parts) (pieces : List Piece) (read : Progress) → pieces_read language wants pieces ≡ Ok read → IsRegion language wants (region_from parts read)
+  unfolding pieces_read
+  is_region parts pieces read e =
+      let both = chain_read (with_entries language wants no_progress (entries pieces)) set_read read e in
       let set = kept_at reason.SymbolUnset (first_unset [] both.0.draft.items) both.0 read both.1.1 in
-      let kept : IsDraft language wants both.0.pairs both.0.draft = kept_statements no_progress both.0 (body_statements language inside first text) kept_none both.1.0 in
+      let kept : IsDraft language wants both.0.pairs both.0.draft = kept_entries no_progress both.0 (entries pieces) kept_none both.1.0 in
       subst (λ (p : Progress). IsRegion language wants (region_from parts p)) set.1 (record {
         few = kept.few;
         valid = kept.valid;

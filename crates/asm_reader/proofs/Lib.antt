@@ -1,10 +1,9 @@
 pub mod Tokens
-pub mod Standing
-pub mod Unclosed
 pub mod LastOnes
 pub mod Ascii
 pub mod Mapped
 pub mod Steps
+pub mod EntryLemmas
 pub mod Answered
 pub mod Pushed
 pub mod RightNotes

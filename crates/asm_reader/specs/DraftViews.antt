@@ -20,6 +20,7 @@ draft_value draft = record {
   tags = tag_names draft.tags;
   mask = draft.mask;
   awaiting = draft.awaiting;
+  invoked = draft.invoked;
 }
 
 -- a draft with the names of symbolic registers

@@ -1,6 +1,6 @@
 -- Drafts: a region as far as it was read, with what each instruction and each note adds. Source: this
 -- project's own format of notes; tags and marks stand behind the instruction that they are of.
-use Rattle.std.specs.Prelude.{ℕ, ◌==◌, Bool, true, false, ◌&&◌, nat_lt, List, [], ◌∷◌, ◌++◌, length, is_some, Option, None, Some, Result, Ok, Err, if◌then◌else◌}
+use Rattle.std.specs.Prelude.{ℕ, ◌==◌, Bool, true, false, not, ◌&&◌, nat_lt, List, [], ◌∷◌, ◌++◌, length, is_some, Option, None, Some, Result, Ok, Err, if◌then◌else◌}
 use Rattle.std.specs.Option.{option_map}
 use Rattle.sl_model.specs.declared.instruction.Instr.{Instr}
 use Rattle.sl_model.specs.declared.limits.TheConstants.{READ_ITEMS}
@@ -21,18 +21,30 @@ abbrev pub refused : {A : Type 0} → ℕ → Reason → Result A Refusal
 refused line reason = Err (record { line = line; reason = reason })
 
 -- A region as far as it was read: its items, for each of them what a printed region tells of it, the
--- names of its tags by their numbers, the mask of the first note on the region, and
--- the last instruction while a note may be said of it.
+-- names of its tags by their numbers, the mask of the first note on the region, the last
+-- instruction while a note may be said of it, and whether a macro was invoked since.
 pub record Draft : Type 0 where
   pub items : List Instr
   pub notes : List NoteValue
   pub tags : List (List ℕ)
   pub mask : Option ℕ
   pub awaiting : Option Awaiting
+  pub invoked : Bool
 
 -- no items yet
 abbrev pub no_draft : Draft
-no_draft = record { items = []; notes = []; tags = []; mask = None; awaiting = None }
+no_draft = record {
+  items = [];
+  notes = [];
+  tags = [];
+  mask = None;
+  awaiting = None;
+  invoked = false;
+}
+
+-- a draft where a row begins, or behind an invocation: a note isn't of an instruction above
+abbrev pub anew : Bool → Draft → Draft
+anew invoked draft = record draft { awaiting = None; invoked = invoked }
 
 -- nothing is told of an instruction but its line
 abbrev pub untold : ℕ → NoteValue
@@ -47,6 +59,7 @@ longer accesses line draft i = record {
   tags = draft.tags;
   mask = draft.mask;
   awaiting = Some (record { line = line; accesses = accesses });
+  invoked = false;
 }
 
 -- The most items of a region: as many as are wanted, and no more than READ_ITEMS.
@@ -83,6 +96,7 @@ with_remark draft remark = record {
   tags = with_tag remark.tag draft.tags;
   mask = draft.mask;
   awaiting = None;
+  invoked = draft.invoked;
 }
 
 -- the first of two masks that is said
@@ -113,17 +127,17 @@ abbrev pub awaits : ℕ → Option Said → Option Awaiting → Bool
 awaits line said None = false
 awaits line said (Some last) = last.line == line && may_say last.accesses said
 
--- May a note stand on a line without an instruction of its statement? One on the region may; any
--- other one belongs to the last instruction before it on its line.
-abbrev pub may_stand : ℕ → Option Awaiting → Option Said → Bool
-may_stand line awaiting None = true
-may_stand line awaiting (Some (of_item remark)) = awaits line (Some (of_item remark)) awaiting
-may_stand line awaiting (Some (of_region mask)) = true
+-- May a note stand on a line without an instruction of its statement? One on the region may, but not
+-- behind an invocation; any other one belongs to the last instruction before it on its line.
+abbrev pub may_stand : ℕ → Draft → Option Said → Bool
+may_stand line draft None = true
+may_stand line draft (Some (of_item remark)) = awaits line (Some (of_item remark)) draft.awaiting
+may_stand line draft (Some (of_region mask)) = not draft.invoked
 
 -- a draft with what a note says that stands without an instruction of its statement
 abbrev pub with_note : ℕ → Draft → Option Said → Result Draft Refusal
 with_note line draft said =
-    if may_stand line draft.awaiting said then Ok (with_said draft said)
+    if may_stand line draft said then Ok (with_said draft said)
     else refused line reason.TagBad
 
 -- a draft with an instruction and what its note says

@@ -1,7 +1,8 @@
 pub mod Statements
 pub mod Notes
 pub mod Tags
-pub mod Before
+pub mod Lines
+pub mod Entries
 pub mod Unset
 pub mod Drafts
 pub mod Reading

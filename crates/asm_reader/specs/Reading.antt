@@ -1,12 +1,12 @@
 -- The region that a text gives: its parts, its instructions and what notes say of them, or the
 -- first reason why it gives none. Source: a profile of GNU as; markers, notes and symbolic registers
 -- are this project's own.
-use Rattle.std.specs.Prelude.{ℕ, Bool, false, List, [], ◌∷◌, Option, None, Some, Result, Ok, Err, if◌then◌else◌}
+use Rattle.std.specs.Prelude.{ℕ, Bool, true, false, List, [], ◌∷◌, Option, None, Some, Result, Ok, Err, if◌then◌else◌}
 use Rattle.sl_model.specs.declared.instruction.Instr.{Instr}
 use Rattle.sl_model.specs.declared.text.CutRefusal.{CutRefusal}
 use Rattle.sl_model.specs.declared.text.CutRefusal.TheVariants as cuts
 use Rattle.sl_model.specs.ResultSteps.{◌>>=◌}
-use Rattle.sl_model.specs.Text.{Parts, whole_lines, numbered_lines, cut}
+use Rattle.sl_model.specs.Text.{Parts, whole_lines, cut}
 use Rattle.sl_model.specs.Token.{Lexeme}
 use Rattle.sl_isa.specs.declared.reasons.FormReason.{FormReason}
 use Rattle.sl_isa.specs.Arch.{comments_of}
@@ -16,10 +16,14 @@ use Rattle.asm_reader.specs.declared.reasons.Reason.{Reason}
 use Rattle.asm_reader.specs.declared.reasons.Reason.TheVariants as reason
 use Rattle.asm_reader.specs.declared.reasons.Refusal.{Refusal}
 use Rattle.asm_reader.specs.declared.reasons.Wants.{Wants}
-use Rattle.asm_reader.specs.Before.{open_after, first_unbuilt}
-use Rattle.asm_reader.specs.Drafts.{Draft, refused, no_draft, with_parts}
+use Rattle.macro_expand.specs.Expansion as expanding
+use Rattle.macro_expand.specs.Region.{expansion}
+use Rattle.macro_expand.specs.Source.{Piece}
+use Rattle.asm_reader.specs.Drafts.{Draft, refused, no_draft, anew, with_parts}
+use Rattle.asm_reader.specs.Entries.{Entry, Begun, Expanded, Stated, Told, entries}
+use Rattle.asm_reader.specs.Lines.{statements_of}
 use Rattle.asm_reader.specs.Notes.{NoteValue, Said, note_said, mask_or}
-use Rattle.asm_reader.specs.Statements.{Statement, statements_of, words_of, note_text, is_unbuilt}
+use Rattle.asm_reader.specs.Statements.{Statement, is_unbuilt}
 use Rattle.asm_reader.specs.Unset.{first_unset}
 
 -- ---- statements
@@ -67,20 +71,16 @@ abbrev pub said_by : ℕ → Option (List ℕ) → Result (Option Said) Refusal
 said_by line None = Ok None
 said_by line (Some text) = right_note line (note_said line text)
 
--- what the note of a statement says
-abbrev pub said_of : Statement → Result (Option Said) Refusal
-said_of statement = said_by statement.line (note_text statement.tokens)
-
 -- What was read, with a statement. Of several faults the first counts: its words are no
 -- instruction, its note isn't right, there is no room.
 unfoldable pub with_statement : Language → Wants → Progress → Statement → Result Progress Refusal
 with_statement language wants read statement = do
-  instr ← instr_of language read.pairs statement.line (words_of statement.tokens)
-  said ← said_of statement
+  instr ← instr_of language read.pairs statement.line statement.words
+  said ← said_by statement.line statement.note
   draft ← with_parts language.isa wants statement.line read.draft said instr
   Ok (record {
     draft = draft;
-    pairs = pairs_after language read.pairs (words_of statement.tokens);
+    pairs = pairs_after language read.pairs statement.words;
   })
 
 -- what was read, with some statements, in their order
@@ -91,6 +91,32 @@ with_statements language wants read (statement ∷ statements) =
     with_statement language wants read statement
     >>= λ more.
     with_statements language wants more statements
+
+-- ---- entries
+
+-- what was read, where a row begins, or behind an invocation
+abbrev pub standing : Bool → Progress → Progress
+standing invoked read = record read { draft = anew invoked read.draft }
+
+-- a note that stands behind no statement is one of a statement without words
+abbrev pub wordless : ℕ → List ℕ → Statement
+wordless line note = record { line = line; words = []; note = Some note }
+
+-- what was read, with one entry more
+unfoldable pub with_entry : Language → Wants → Progress → Entry → Result Progress Refusal
+with_entry language wants read Begun = Ok (standing false read)
+with_entry language wants read Expanded = Ok (standing true read)
+with_entry language wants read (Stated statement) = with_statement language wants read statement
+with_entry language wants read (Told line note) =
+    with_statement language wants read (wordless line note)
+
+-- what was read, with some entries, in their order
+unfoldable pub with_entries : Language → Wants → Progress → List Entry → Result Progress Refusal
+with_entries language wants read [] = Ok read
+with_entries language wants read (entry ∷ entries) =
+    with_entry language wants read entry
+    >>= λ more.
+    with_entries language wants more entries
 
 -- ---- a whole region
 
@@ -136,32 +162,36 @@ region_from parts read = record {
   mask = mask_or read.draft.mask;
 }
 
--- the statements of a body, before which a block comment may be open
-abbrev pub body_statements : Language → Bool → ℕ → List ℕ → List Statement
-body_statements language inside first text =
-    statements_of (comments_of language.isa.name) inside first (whole_lines text)
+-- what was read, where each symbolic register that an item reads is written by one above
+abbrev pub set_read : Progress → Result Progress Refusal
+set_read read = unless_at reason.SymbolUnset (first_unset [] read.draft.items) read
 
--- Is a block comment open behind what stands before a region?
-abbrev pub open_before : Language → List ℕ → Bool
-open_before language before =
-    open_after (comments_of language.isa.name) false (numbered_lines 1 before)
+-- what is read of the pieces of a region
+unfoldable pub pieces_read : Language → Wants → List Piece → Result Progress Refusal
+pieces_read language wants pieces =
+    with_entries language wants no_progress (entries pieces) >>= set_read
 
--- What is read of a body, before which a block comment may be open: its statements, where each
--- symbolic register that an item reads is written by one above.
-unfoldable pub body_read : Language → Wants → Bool → ℕ → List ℕ → Result Progress Refusal
-body_read language wants inside first text =
-    with_statements language wants no_progress (body_statements language inside first text)
-    >>= λ read.
-    unless_at reason.SymbolUnset (first_unset [] read.draft.items) read
+-- the refusal of a statement whose macros or aliases cannot be expanded
+abbrev pub expand_refusal : expanding.Refusal → Refusal
+expand_refusal refusal = record { line = refusal.line; reason = reason.Expand refusal.reason }
+
+-- the pieces of a region, or the refusal of its expansion
+abbrev pub pieces_or : Result (List Piece) expanding.Refusal → Result (List Piece) Refusal
+pieces_or (Ok pieces) = Ok pieces
+pieces_or (Err refusal) = Err (expand_refusal refusal)
 
 -- the region of a text between two markers
 unfoldable pub text_region : Language → Wants → List ℕ → List ℕ → List ℕ → Result Region Refusal
 text_region language wants start end text = do
   parts ← parts_or (cut start end text)
-  built ← unless_at reason.NotYet (first_unbuilt (numbered_lines 1 parts.before)) parts
-  read ← body_read language wants (open_before language built.before) built.first built.body
-  Ok (region_from built read)
+  pieces ← pieces_or (expansion (comments_of language.isa.name) parts)
+  read ← pieces_read language wants pieces
+  Ok (region_from parts read)
 
--- a region that is read by itself, with nothing before it
-abbrev pub region_alone : Language → Wants → List ℕ → Result Progress Refusal
-region_alone language wants text = body_read language wants false 1 text
+-- What is read of a region by itself: of the statements of its lines as they stand, with nothing
+-- before it.
+unfoldable pub region_alone : Language → Wants → List ℕ → Result Progress Refusal
+region_alone language wants text =
+    with_statements language wants no_progress
+    (statements_of (comments_of language.isa.name) false 1 (whole_lines text))
+    >>= set_read

@@ -29,6 +29,8 @@ pub(crate) struct Draft<'a> {
     pub mask: Option<u64>,
     /// The last instruction, as long as no note was said of it.
     pub awaiting: Option<Awaiting>,
+    /// Was a macro invoked since the last instruction on its row?
+    pub invoked: bool,
     ghost named: { length tags.names.items + (if is_some awaiting then 1 else 0) ≤ length items.items },
     ghost few: { length items.items ≤ 8192 },
 }
@@ -37,7 +39,7 @@ impl<'a> Draft<'a> {
     ghost use Rattle.std.specs.Prelude.{◌≡◌, true, OnOk, Some};
     ghost use Rattle.asm_reader.specs.DraftViews.{draft_value};
     ghost use Rattle.asm_reader.specs.NoteViews.{remark_value, one_said};
-    ghost use Rattle.asm_reader.specs.Drafts.{no_draft, longer, with_remark, with_said, has_place};
+    ghost use Rattle.asm_reader.specs.Drafts.{no_draft, anew, longer, with_remark, with_said, has_place};
 
     /// Nothing was read yet.
     pub fn new(alloc: Global) -> Draft<'a>
@@ -49,7 +51,16 @@ impl<'a> Draft<'a> {
             tags: Tags::new(alloc),
             mask: None,
             awaiting: None,
+            invoked: false,
         }
+    }
+
+    /// A row begins, or a macro was invoked: no instruction stands before a note.
+    pub fn stand_anew(&mut self, invoked: bool)
+        ensures { draft_value self.new ≡ anew invoked (draft_value self.old) }
+    {
+        self.awaiting = None;
+        self.invoked = invoked;
     }
 
     /// Adds an instruction that was read on a line.
@@ -61,6 +72,7 @@ impl<'a> Draft<'a> {
         self.items.push(Instr { line, ..item })?;
         self.notes.push(Note::untold(line))?;
         self.awaiting = Some(Awaiting { line, accesses });
+        self.invoked = false;
         Ok(())
     }
 

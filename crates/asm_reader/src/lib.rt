@@ -3,8 +3,8 @@
 
 mod draft;
 mod last;
-mod lines;
 pub mod note;
+mod pieces;
 mod progress;
 mod reading;
 pub mod reasons;

@@ -11,16 +11,18 @@ ghost use Rattle.asm_reader.specs.DraftViews.{HasFewNames, Leaves, draft_value, 
 ghost use Rattle.asm_reader.specs.NoteViews.{said_value};
 ghost use Rattle.asm_reader.specs.Drafts as drafts;
 ghost use Rattle.asm_reader.specs.Reading as spec;
-ghost use Rattle.asm_reader.specs.Views.{lexemes, statement_value, refusal_of};
+ghost use Rattle.asm_reader.specs.Views.{statement_value, refusal_of};
+ghost use Rattle.asm_reader.specs.WordViews.{bytes_value};
+ghost use Rattle.macro_expand.specs.Spelled.{lexemes};
 
 use crate::draft::{Awaiting, Draft};
 use crate::note::{Said, note_said};
 use crate::progress::Progress;
 use crate::reasons::{ReadRefusal, Reason, Refusal, Wants};
-use crate::statements::{Statement, is_unbuilt, note_text, words_of};
+use crate::statements::{Statement, is_unbuilt};
 use sl_isa::{Arch, FormErr, FormReason, Instr, Symbols};
 use sl_model::limits::READ_ITEMS;
-use sl_text::{Comments, Token};
+use sl_text::Token;
 use std::alloc::{AllocError, Global};
 
 /// How a text is read.
@@ -28,8 +30,6 @@ use std::alloc::{AllocError, Global};
 pub(crate) struct Manner {
     /// Where memory is taken.
     pub alloc: Global,
-    /// Which characters start a comment.
-    pub comments: Comments,
     /// What is asked of the region.
     pub wants: Wants,
 }
@@ -125,17 +125,19 @@ fn read_instr<A: Arch>(
 }
 
 // What the note of a statement says, if it has one.
-fn said_of<'a>(alloc: Global, statement: Statement<'_, 'a>) -> Result<Option<Said<'a>>, ReadRefusal>
-    ensures { Gives refusal_of said_value result
-        (spec.said_of (statement_value statement.entry)) }
+fn said_by<'a>(
+    alloc: Global,
+    line: u32,
+    note: Option<&'a [u8]>,
+) -> Result<Option<Said<'a>>, ReadRefusal>
+    ensures { Gives refusal_of said_value result (spec.said_by line (bytes_value note.entry)) }
 {
-    let Some(text) = note_text(statement.tokens) else {
+    let Some(text) = note else {
         return Ok(None);
     };
-    match note_said(alloc, statement.line, text) {
+    match note_said(alloc, line, text) {
         Ok(Some(said)) => Ok(Some(said)),
         Ok(None) => {
-            let line = statement.line;
             let reason = Reason::TagBad;
             Err(ReadRefusal::Refused(Refusal { line, reason }))
         }
@@ -172,12 +174,13 @@ fn awaits(line: u32, said: &Option<Said<'_>>, awaiting: Option<Awaiting>) -> boo
 }
 
 // May a note stand on a line without an instruction of its statement?
-fn may_stand(line: u32, awaiting: Option<Awaiting>, said: &Option<Said<'_>>) -> bool
-    ensures { result ≡ drafts.may_stand line awaiting (said_value said.now) }
+fn may_stand(line: u32, draft: &Draft<'_>, said: &Option<Said<'_>>) -> bool
+    ensures { result ≡ drafts.may_stand line (draft_value draft.now) (said_value said.now) }
 {
     match said {
-        Some(Said::Item(_)) => awaits(line, said, awaiting),
-        _ => true,
+        Some(Said::Item(_)) => awaits(line, said, draft.awaiting),
+        Some(Said::Region(_)) => !draft.invoked,
+        None => true,
     }
 }
 
@@ -202,7 +205,7 @@ fn push_note<'a>(
     ensures { Leaves result (draft_value draft.new)
         (drafts.with_note line (draft_value draft.old) (said_value said.now)) }
 {
-    if !may_stand(line, draft.awaiting, said) {
+    if !may_stand(line, draft, said) {
         let reason = Reason::TagBad;
         return Err(ReadRefusal::Refused(Refusal { line, reason }));
     }
@@ -258,7 +261,7 @@ fn push_parts<'a, A: Arch>(
 pub(crate) fn push_statement<'a, A: Arch>(
     arch: &A,
     manner: Manner,
-    statement: Statement<'_, 'a>,
+    statement: Statement<'_, '_, 'a>,
     read: &mut Progress<'a>,
 ) -> Result<(), ReadRefusal>
     requires { HasFewNames read.old }
@@ -267,9 +270,8 @@ pub(crate) fn push_statement<'a, A: Arch>(
         (statement_value statement.entry)) }
     ensures few { OnOk result (HasFewNames read.new) }
 {
-    let line = statement.line;
-    let words = words_of(manner.alloc, statement.tokens)?;
-    let instr = read_instr(arch, manner.alloc, line, &words, &mut read.symbols)?;
-    let said = said_of(manner.alloc, statement)?;
+    let Statement { line, words, note } = statement;
+    let instr = read_instr(arch, manner.alloc, line, words, &mut read.symbols)?;
+    let said = said_by(manner.alloc, line, note)?;
     push_parts(arch, manner.wants, line, &mut read.draft, &said, instr)
 }

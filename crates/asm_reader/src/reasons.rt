@@ -2,6 +2,7 @@
 ghost use Rattle.std.specs.Prelude.{◌≡◌};
 ghost use Rattle.asm_reader.specs.declared.reasons.ReadRefusal.TheVariants.{Refused, NoMemory};
 
+use macro_expand::ExpandReason;
 use sl_isa::FormReason;
 use sl_model::text::CutRefusal;
 use std::alloc::{AllocError, AllocFailed};
@@ -18,6 +19,8 @@ pub struct Wants {
 pub enum Reason {
     /// The markers don't stand as they should.
     Cut(CutRefusal),
+    /// A macro or an alias isn't expanded.
+    Expand(ExpandReason),
     /// A statement is no instruction.
     Form(FormReason),
     /// A note isn't right, or stands where it can't.

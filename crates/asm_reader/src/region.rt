@@ -1,28 +1,29 @@
 //! The region of a text: its instructions, or why it has none.
-ghost use Rattle.std.specs.Prelude.{◌≡◌, ◌≤◌, ◌<◌, ◌^◌, [], length, IfOk};
-ghost use Rattle.sl_model.specs.Text.{numbered_lines, cut};
+ghost use Rattle.std.specs.Prelude.{◌≡◌, ◌≤◌, ◌<◌, ◌^◌, List, [], length, map, IfOk, Result};
+ghost use Rattle.sl_model.specs.Answers.{Answers, Gives, Refuses};
+ghost use Rattle.sl_model.specs.Text.{cut};
 ghost use Rattle.sl_text.specs.Cut.{parts_of};
-ghost use Rattle.sl_isa.specs.Arch.{comments_of};
-ghost use Rattle.asm_reader.specs.declared.reasons.Reason.TheVariants.{NotYet, SymbolUnset};
+ghost use Rattle.macro_expand.specs.Expansion.{Refusal as RefusalValue};
+ghost use Rattle.macro_expand.specs.Region.{expansion};
+ghost use Rattle.macro_expand.specs.Source.{Piece as PieceValue};
+ghost use Rattle.macro_expand.specs.Views as expanding;
+ghost use Rattle.macro_expand.specs.Views.{piece_of};
+ghost use Rattle.asm_reader.specs.DraftViews.{progress_value};
 ghost use Rattle.asm_reader.specs.Reading as spec;
 ghost use Rattle.asm_reader.specs.RegionViews.{region_of};
-ghost use Rattle.asm_reader.specs.Before as before;
-ghost use Rattle.asm_reader.specs.DraftViews.{progress_value};
-ghost use Rattle.asm_reader.specs.Unset as unset;
 ghost use Rattle.asm_reader.specs.Regions.{IsRegion};
-ghost use Rattle.sl_model.specs.Answers.{Answers, Gives};
 ghost use Rattle.asm_reader.specs.Views.{refusal_of};
 
-use crate::lines::{is_open_after, read_lines};
 use crate::note::Notes;
+use crate::pieces::read_pieces;
 use crate::progress::Progress;
 use crate::reading::Manner;
 use crate::reasons::{ReadRefusal, Reason, Refusal, Wants};
-use crate::statements::begins_with;
 use crate::tags::Tags;
 use crate::unset::first_unset;
+use macro_expand::{ExpandErr, Piece, expand};
 use sl_isa::{Arch, Instr, Symbols, comment_kind};
-use sl_text::{Cut, CutRefusal, cut_region, lines};
+use sl_text::{Comments, Cut, CutRefusal, cut_region};
 use std::alloc::Global;
 
 /// A region: its text, cut at the markers, its instructions, and what notes say.
@@ -69,67 +70,42 @@ fn cut_parts<'a>(text: &'a str, start: &str, end: &str) -> Result<Cut<'a>, Refus
     }
 }
 
-// Does a word stand somewhere in a text, in letters of either case?
-fn stands_in(text: &[u8], word: &[u8]) -> bool
-    ensures { result ≡ before.stands_in word.now text.now }
+// The refusal of a statement whose macros or aliases cannot be expanded.
+fn expand_failure(failure: ExpandErr) -> ReadRefusal
+    ensures { (answer : Result (List PieceValue) RefusalValue)
+        → Refuses (expanding.refusal_of failure) answer
+        → Refuses (refusal_of result) (spec.pieces_or answer) }
 {
-    for place in 0..text.len() {
-        if begins_with(&text[place..], word) {
-            return true;
+    match failure {
+        ExpandErr::Refused { line, reason } => {
+            let reason = Reason::Expand(reason);
+            ReadRefusal::Refused(Refusal { line, reason })
         }
+        ExpandErr::NoMemory => ReadRefusal::NoMemory,
     }
-    false
 }
 
-// Does a line hold a word of a macro or of an alias?
-fn holds_unbuilt(line: &str) -> bool
-    ensures { result ≡ before.holds_unbuilt line.now }
+// The pieces of a region.
+fn pieces_of<'a>(
+    alloc: Global,
+    cut: &Cut<'a>,
+    comments: Comments,
+) -> Result<Vec<Piece<'a>>, ReadRefusal>
+    requires before { length cut.now.before.now < 2 ^ 31 }
+    requires body { length cut.now.body.now < 2 ^ 31 }
+    requires first { cut.now.first < 2 ^ 31 }
+    ensures { Gives refusal_of (λ pieces. map piece_of pieces.items) result
+        (spec.pieces_or (expansion comments (parts_of cut.now))) }
 {
-    let text = line.as_bytes();
-    if stands_in(text, b".macro") {
-        return true;
-    }
-    if stands_in(text, b".req") {
-        return true;
-    }
-    stands_in(text, b".unreq")
-}
-
-// The number of the first line of a text that holds such a word.
-fn first_unbuilt(text: &str) -> Option<u32>
-    requires { length text.now < 2 ^ 31 }
-    ensures { result ≡ before.first_unbuilt (numbered_lines 1 text.now) }
-{
-    for line in lines(text, 1) {
-        if holds_unbuilt(line.text) {
-            return Some(line.number);
-        }
-    }
-    None
-}
-
-// Nothing before the region is what isn't built yet.
-fn built_parts(cut: Cut<'_>) -> Result<Cut<'_>, Refusal>
-    requires { length cut.before.now < 2 ^ 31 }
-    ensures answer { Answers parts_of result
-        (spec.unless_at NotYet (before.first_unbuilt (numbered_lines 1 cut.entry.before.now))
-        (parts_of cut.entry)) }
-    ensures same { IfOk result (λ built. built ≡ cut.entry) }
-{
-    match first_unbuilt(cut.before) {
-        Some(line) => Err(Refusal {
-            line,
-            reason: Reason::NotYet,
-        }),
-        None => Ok(cut),
+    match expand(alloc, cut, comments) {
+        Ok(pieces) => Ok(pieces),
+        Err(failure) => Err(expand_failure(failure)),
     }
 }
 
 // No symbolic register is read before it is written.
 fn set_progress(read: Progress<'_>) -> Result<Progress<'_>, Refusal>
-    ensures { Answers progress_value result
-        (spec.unless_at SymbolUnset (unset.first_unset [] read.entry.draft.items.items)
-        (progress_value read.entry)) }
+    ensures { Answers progress_value result (spec.set_read (progress_value read.entry)) }
 {
     match first_unset(&read.draft.items) {
         Some(line) => Err(Refusal {
@@ -140,23 +116,17 @@ fn set_progress(read: Progress<'_>) -> Result<Progress<'_>, Refusal>
     }
 }
 
-// What is read of a body whose first line has this number; `inside` says that a block comment is
-// open before it.
-#[tactic(auto, unfolding(crate::specs::Reading::body_read))]
+// What is read of the pieces of a region.
+#[tactic(auto, unfolding(crate::specs::Reading::pieces_read))]
 fn read_body<'a, A: Arch>(
     arch: &A,
     manner: Manner,
-    body: &'a str,
-    first: u32,
-    inside: bool,
+    pieces: &[Piece<'a>],
 ) -> Result<Progress<'a>, ReadRefusal>
-    requires text { length body.now < 2 ^ 31 }
-    requires first { first < 2 ^ 31 }
-    requires comments { manner.comments ≡ comments_of A.language.isa.name }
     ensures { Gives refusal_of progress_value result
-        (spec.body_read A.language manner.wants inside first body.now) }
+        (spec.pieces_read A.language manner.wants (map piece_of pieces.now)) }
 {
-    let read = read_lines(arch, manner, body, first, inside)?;
+    let read = read_pieces(arch, manner, pieces)?;
     Ok(set_progress(read)?)
 }
 
@@ -180,8 +150,8 @@ fn region_from<'a>(cut: Cut<'a>, read: Progress<'a>) -> Region<'a>
 ///
 /// # Errors
 ///
-/// The first line that is refused, and why: first the markers, then what isn't built yet before the
-/// region, then what stands in it, and last the symbolic registers. Where memory runs out, [`ReadRefusal::NoMemory`].
+/// The first line that is refused, and why: first the markers, then macros and aliases, then the
+/// statements, and last the symbolic registers. Where memory runs out, [`ReadRefusal::NoMemory`].
 #[tactic(auto, unfolding(crate::specs::Reading::text_region))]
 pub fn read_region<'a, A: Arch>(
     arch: &A,
@@ -196,15 +166,8 @@ pub fn read_region<'a, A: Arch>(
         (spec.text_region A.language wants start.now end.now text.now) }
     ensures right { IfOk result (λ region. IsRegion A.language wants (region_of region)) }
 {
-    let comments = comment_kind(arch.name());
     let cut = cut_parts(text, start, end)?;
-    let cut = built_parts(cut)?;
-    let inside = is_open_after(comments, cut.before);
-    let manner = Manner {
-        alloc,
-        comments,
-        wants,
-    };
-    let read = read_body(arch, manner, cut.body, cut.first, inside)?;
+    let pieces = pieces_of(alloc, &cut, comment_kind(arch.name()))?;
+    let read = read_body(arch, Manner { alloc, wants }, &pieces)?;
     Ok(region_from(cut, read))
 }

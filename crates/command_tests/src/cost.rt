@@ -52,29 +52,32 @@ a macro before|=|f:
 .endm
 slothy_start:
 slothy_end:
-||3||slothy: k.s:2: refused: NotYet
-~
+||0|kind=straight n=0 cycles=0 stalls=0
+|~
 a macro in capitals before|=|f:
 .MACRO add
 .ENDM
 slothy_start:
+        add
 slothy_end:
-||3||slothy: k.s:2: refused: NotYet
-~
+||0|kind=straight n=0 cycles=0 stalls=0
+|~
 an alias before|=|a .req x1
 slothy_start:
+        add a, a, a
 slothy_end:
-||3||slothy: k.s:1: refused: NotYet
-~
-the end of an alias before|=|.unreq a
+||0|kind=straight n=1 cycles=1 stalls=0
+c=0 u=u i=0 line=3 add x1, x1, x1
+|~
+the end of no alias before|=|.unreq a
 slothy_start:
 slothy_end:
-||3||slothy: k.s:1: refused: NotYet
+||3||slothy: k.s:1: refused: AliasUnknown
 ~
 a macro in a comment before|=|slothy_start: // .macro
 slothy_end:
-||3||slothy: k.s:1: refused: NotYet
-~
+||0|kind=straight n=0 cycles=0 stalls=0
+|~
 carriage returns|=|slothy_start:\r
         add x1, x2, x3\r
 slothy_end:\r
@@ -153,19 +156,19 @@ a macro word before a bad line|=|.macro m
 slothy_start:
 foo
 slothy_end:
-||3||slothy: k.s:1: refused: NotYet
+||3||slothy: k.s:1: refused: NoEndm
 ~
 an alias on the second line|=|\r
 x .req y\r
 slothy_start:\r
-slothy_end:||3||slothy: k.s:2: refused: NotYet
-~
+slothy_end:||0|kind=straight n=0 cycles=0 stalls=0
+|~
 a macro word in a comment|=|
 
 /* .unreq */
 slothy_start:
-slothy_end:||3||slothy: k.s:3: refused: NotYet
-~
+slothy_end:||0|kind=straight n=0 cycles=0 stalls=0
+|~
 a word that is nearly an alias|=|// .re
 slothy_start:
 // .req
@@ -206,7 +209,7 @@ a directive|=|slothy_start:
 
 .p2align 4
 slothy_end:
-||3||slothy: k.s:3: refused: NotYet
+||3||slothy: k.s:3: refused: UnknownMnemonic
 ~
 a sign that starts no comment|=|slothy_start:
 @ foo

@@ -8,6 +8,10 @@ mod cores;
 #[cfg(test)]
 mod cost;
 #[cfg(test)]
+mod m4;
+#[cfg(test)]
+mod macros;
+#[cfg(test)]
 mod opt;
 #[cfg(test)]
 mod printing;

@@ -1,6 +1,7 @@
 //! Regions of texts: their items' lines, or the first refusal, written by hand.
 use arm64_table::Arm64;
 use asm_reader::{ReadRefusal, Reason, Wants, read_region};
+use macro_expand::ExpandReason;
 use sample_set::Failing;
 use sl_isa::FormReason;
 use sl_text::CutRefusal;
@@ -19,6 +20,21 @@ fn reason_name(reason: FormReason) -> &'static str {
     }
 }
 
+/// Adds why a region isn't expanded.
+fn push_expand(text: &mut String, reason: ExpandReason) -> Result<(), AllocError> {
+    match reason {
+        ExpandReason::NoEndm => text.push_str("NoEndm"),
+        ExpandReason::MacroTwice => text.push_str("MacroTwice"),
+        ExpandReason::MacroShape => text.push_str("MacroShape"),
+        ExpandReason::ArgCount => text.push_str("ArgCount"),
+        ExpandReason::ParamUnknown => text.push_str("ParamUnknown"),
+        ExpandReason::AliasTwice => text.push_str("AliasTwice"),
+        ExpandReason::AliasUnknown => text.push_str("AliasUnknown"),
+        ExpandReason::Depth { limit } => write!(text, "Depth {limit}"),
+        ExpandReason::ExpansionSize { limit } => write!(text, "ExpansionSize {limit}"),
+    }
+}
+
 /// Adds why a region isn't read.
 fn push_reason(text: &mut String, reason: Reason) -> Result<(), AllocError> {
     match reason {
@@ -26,6 +42,7 @@ fn push_reason(text: &mut String, reason: Reason) -> Result<(), AllocError> {
         Reason::Cut(CutRefusal::NoEnd) => text.push_str("NoEnd"),
         Reason::Cut(CutRefusal::Twice { line }) => write!(text, "Twice {line}"),
         Reason::Form(form) => text.push_str(reason_name(form)),
+        Reason::Expand(reason) => push_expand(text, reason),
         Reason::TagBad => text.push_str("TagBad"),
         Reason::SymbolUnset => text.push_str("SymbolUnset"),
         Reason::NotYet => text.push_str("NotYet"),
@@ -57,7 +74,7 @@ fn answer_to(alloc: Global, text: &str, wants: Wants) -> Result<String, AllocErr
 }
 
 /// What stands between the labels, from line 2 on, and its answer.
-const REGIONS: [(&str, &str); 42] = [
+const REGIONS: [(&str, &str); 46] = [
     // statements
     ("", ""),
     (" \t", ""),
@@ -70,8 +87,8 @@ const REGIONS: [(&str, &str); 42] = [
     ("add x0,x1,x2 @ a", "2: BadOperand"),
     ("add x0,x1\n, x2", "2: BadOperand"),
     // what is read later
-    (".text", "2: NotYet"),
-    (" . text", "2: NotYet"),
+    (".text", "2: UnknownMnemonic"),
+    (" . text", "2: UnknownMnemonic"),
     ("loop:", "2: NotYet"),
     ("loop :", "2: UnknownMnemonic"),
     ("1:", "2: UnknownMnemonic"),
@@ -83,8 +100,15 @@ const REGIONS: [(&str, &str); 42] = [
     ("Ldr x0, [x1]", "2 "),
     ("ldrb w0, [x1]", "2: UnknownMnemonic"),
     ("stp q0, q1, [x0]", "2 "),
-    ("acc .req x0", "2: NotYet"),
-    ("acc\t.UnReq", "2: NotYet"),
+    ("acc .req x0", ""),
+    ("acc\t.UnReq", "2: UnknownMnemonic"),
+    (
+        "a .req x0\nadd a, a, a; .unreq a\nadd a, x0, x1",
+        "4: BadOperand",
+    ),
+    (".unreq a", "2: AliasUnknown"),
+    (".macro m\nadd x0,x1,x2\n.endm\nm; m", "5 5 "),
+    (".macro m\nm\n.endm\nm", "5: Depth 16"),
     ("acc.req x0", "2: UnknownMnemonic"),
     ("acc . req x0", "2: UnknownMnemonic"),
     ("add x0, x1 > x2", "2: BadOperand"),
@@ -99,7 +123,7 @@ const REGIONS: [(&str, &str); 42] = [
     ("add xzr,x1,x2", "2: RegisterClass"),
     // the first refusal counts
     ("add x0,x1,x2\nnop\n.text", "3: UnknownMnemonic"),
-    ("add x0,x1,x2; .text\nnop", "2: NotYet"),
+    ("add x0,x1,x2; .text\nnop", "2: UnknownMnemonic"),
     ("add x0,x1,x2; nop; .text", "2: UnknownMnemonic"),
     ("add x0,x1,x2\nadd x0,x1,x2; nop", "3: UnknownMnemonic"),
     ("s:", "2: Twice 2"),

@@ -172,7 +172,7 @@ opt k.s --core one:2 --free none,x0
 opt k.s --core one:2 --free x0,none
 opt k.s --core one:2 --free x0;x1
 opt k.s --core one:2 --free x0-x3
-cost k.s --core one:2 --arch m4
+cost k.s --core one:2 --arch riscv
 cost k.s --core one:2 --arch ARM64
 cost k.s --core one:2 --arch=";
 

@@ -7,7 +7,8 @@ use Rattle.std.specs.Str.{bytes_eq}
 use Rattle.std.specs.Prelude.{codes}
 use Rattle.std.proofs.lemmas.Nat.Bits.{bit_at-zero, bit_at-pow_other, bit_at_or}
 use Rattle.std.proofs.lemmas.Bool.{and_parts, cases_Bool, eqb-true, eq-eqb}
-use Rattle.sl_model.specs.declared.instruction.ArchName.TheVariants.{Arm64}
+use Rattle.sl_model.specs.declared.instruction.ArchName.{ArchName}
+use Rattle.sl_model.specs.declared.instruction.ArchName.TheVariants.{Arm64, M4}
 use Rattle.sl_model.specs.declared.register.Bank.{Bank}
 use Rattle.sl_model.specs.declared.register.Bank.TheVariants.{General, Vector, Flags, Stack}
 use Rattle.sl_model.specs.declared.register.Reg.{Reg}
@@ -32,9 +33,10 @@ AllListed (r ∷ regs) = IsListed r × AllListed regs
 abbrev is_fine : Reg → Bool
 is_fine r = not (is_listed_bank r.bank) || nat_lt r.number (listed_count r.bank)
 
-all_fine : list_all is_fine (machine_registers Arm64) ≡ true
+all_fine : (arch : ArchName) → list_all is_fine (machine_registers arch) ≡ true
 unfolding general_registers other_registers registers_from
-all_fine = refl
+all_fine Arm64 = refl
+all_fine M4 = refl
 
 fine : (b c : Bool) → (not b || c) ≡ true → b ≡ true → c ≡ true
 fine true c e is = e
@@ -45,19 +47,19 @@ numbered-listed None h = tt
 numbered-listed (Some r) h = let_through IsListed (is_listed_bank r.bank) (Ok r)
     (λ is. ltb-true r.number (listed_count r.bank) (fine (is_listed_bank r.bank) (nat_lt r.number (listed_count r.bank)) (h r refl) is))
 
-register-listed : (name : Text) → IfOk (listed_register name) IsListed
+register-listed : (arch : ArchName) (name : Text) → IfOk (listed_register arch name) IsListed
 unfolding listed_register named_among
-register-listed name = ⊎_elim
+register-listed arch name = ⊎_elim
     (λ (is : bytes_eq name (codes "flags") ≡ true). rw is (omega arith))
     (λ (other : bytes_eq name (codes "flags") ≡ false). rw other
-    (numbered-listed (register_named Arm64 name) (λ r found. found-all (λ r. bytes_eq (name_of Arm64 r) name) is_fine (machine_registers Arm64) r all_fine found)))
+    (numbered-listed (register_named arch name) (λ r found. found-all (λ r. bytes_eq (name_of arch r) name) is_fine (machine_registers arch) r (all_fine arch) found)))
     (cases_Bool (bytes_eq name (codes "flags")))
 
-registers-listed : (names : List Text) → IfOk (listed_registers names) AllListed
+registers-listed : (arch : ArchName) (names : List Text) → IfOk (listed_registers arch names) AllListed
 unfolding listed_registers
-registers-listed [] = tt
-registers-listed (name ∷ names) = step IsListed AllListed (listed_register name) _ (register-listed name)
-    (λ r is. step AllListed AllListed (listed_registers names) _ (registers-listed names) (λ regs all. (is, all)))
+registers-listed arch [] = tt
+registers-listed arch (name ∷ names) = step IsListed AllListed (listed_register arch name) _ (register-listed arch name)
+    (λ r is. step AllListed AllListed (listed_registers arch names) _ (registers-listed arch names) (λ regs all. (is, all)))
 
 -- ---- bits
 
@@ -107,12 +109,12 @@ set-listed regs all r has =
     (bits-listed regs all (bit_of r.bank r.number) (eqb-true (bit_at (set_of regs).bits (bit_of r.bank r.number)) 1 inner.0))
 
 -- the set that a list names
-pub list-listed : (word : Text) → IfOk (register_set word) IsListedSet
+pub list-listed : (arch : ArchName) (word : Text) → IfOk (register_set arch word) IsListedSet
 unfolding register_set
-list-listed word = ⊎_elim
+list-listed arch word = ⊎_elim
     (λ (is : bytes_eq word (codes "none") ≡ true). rw is (set-listed [] tt))
     (λ (other : bytes_eq word (codes "none") ≡ false). rw other
-    (step AllListed IsListedSet (listed_registers (slice_split (λ c. eqb c 44) word)) _ (registers-listed (slice_split (λ c. eqb c 44) word)) (λ regs all. set-listed regs all)))
+    (step AllListed IsListedSet (listed_registers arch (slice_split (λ c. eqb c 44) word)) _ (registers-listed arch (slice_split (λ c. eqb c 44) word)) (λ regs all. set-listed regs all)))
     (cases_Bool (bytes_eq word (codes "none")))
 
 -- no registers

@@ -7,6 +7,7 @@ use Rattle.std.specs.Str.{bytes_eq}
 use Rattle.std.proofs.lemmas.Bool.{and_parts, leb-true, not-true}
 use Rattle.std.proofs.lemmas.Slice.Eq.{bytes_eq-Decides}
 use Rattle.sl_model.specs.declared.limits.TheConstants.{STALLS, TURNS}
+use Rattle.sl_model.specs.declared.instruction.ArchName.{ArchName}
 use Rattle.sl_model.specs.declared.register.RegSet.{RegSet}
 use Rattle.sl_model.specs.Digits.{decimal_number}
 use Rattle.command_words.specs.declared.options.Mode.{Mode}
@@ -107,15 +108,15 @@ labels-differ first last =
 
 -- ---- registers
 
-live-listed : (word : Option Text) → IfOk (live_of word) (λ live. IfSome live IsListedSet)
+live-listed : (arch : ArchName) (word : Option Text) → IfOk (live_of arch word) (λ live. IfSome live IsListedSet)
 unfolding live_of
-live-listed None = tt
-live-listed (Some word) = step IsListedSet (λ (live : Option RegSet). IfSome live IsListedSet) (register_set word) _ (list-listed word) (λ set is. is)
+live-listed arch None = tt
+live-listed arch (Some word) = step IsListedSet (λ (live : Option RegSet). IfSome live IsListedSet) (register_set arch word) _ (list-listed arch word) (λ set is. is)
 
-free-listed : (word : Option Text) → IfOk (free_of word) IsListedSet
+free-listed : (arch : ArchName) (word : Option Text) → IfOk (free_of arch word) IsListedSet
 unfolding free_of
-free-listed None = none-listed
-free-listed (Some word) = list-listed word
+free-listed arch None = none-listed
+free-listed arch (Some word) = list-listed arch word
 
 -- ---- modes
 
@@ -154,8 +155,7 @@ mode-needs : (look : Text → Option Text) → IfOk (mode_by look) (HasNeeds loo
 unfolding mode_by suited
 mode-needs look =
     step (λ (mode : Mode). Unit {0}) (HasNeeds look) (mode_of (look (codes "MODE"))) _ (anything (mode_of (look (codes "MODE"))))
-    (λ mode any. step (λ (u : Unit {0}). Unit {0}) (HasNeeds look) (architecture (look (codes "arch"))) _ (anything (architecture (look (codes "arch"))))
-    (λ u any. let_through (HasNeeds look) (suits mode look) (Ok mode) (needs-met look mode)))
+    (λ mode any. let_through (HasNeeds look) (suits mode look) (Ok mode) (needs-met look mode))
 
 -- ---- all of it
 
@@ -173,11 +173,11 @@ files-whole look =
 abbrev AreSets : Option RegSet × RegSet → Type 0
 AreSets sets = IfSome sets.0 IsListedSet × IsListedSet sets.1
 
-registers-whole : (look : Text → Option Text) → IfOk (registers_by look) AreSets
+registers-whole : (arch : ArchName) (look : Text → Option Text) → IfOk (registers_by arch look) AreSets
 unfolding registers_by
-registers-whole look =
-    step (λ (live : Option RegSet). IfSome live IsListedSet) AreSets (live_of (look (codes "live"))) _ (live-listed (look (codes "live")))
-    (λ live is. step IsListedSet AreSets (free_of (look (codes "free"))) _ (free-listed (look (codes "free"))) (λ free of. (is, of)))
+registers-whole arch look =
+    step (λ (live : Option RegSet). IfSome live IsListedSet) AreSets (live_of arch (look (codes "live"))) _ (live-listed arch (look (codes "live")))
+    (λ live is. step IsListedSet AreSets (free_of arch (look (codes "free"))) _ (free-listed arch (look (codes "free"))) (λ free of. (is, of)))
 
 abbrev AreNumbers : ℕ × ℕ → Type 0
 AreNumbers numbers = (numbers.0 ≤ MOST_STALLS) × (numbers.1 ≤ TURNS)
@@ -194,9 +194,10 @@ pub options-whole : (look : Text → Option Text) → IfOk (options_of look) IsW
 unfolding options_of
 options-whole look =
     step (HasNeeds look) IsWhole (mode_by look) _ (mode-needs look)
-    (λ mode needs. step (AreFiles look) IsWhole (files_by look) _ (files-whole look)
+    (λ mode needs. step (λ (arch : ArchName). Unit {0}) IsWhole (architecture (look (codes "arch"))) _ (anything (architecture (look (codes "arch"))))
+    (λ arch any. step (AreFiles look) IsWhole (files_by look) _ (files-whole look)
     (λ files named. step AreLabels IsWhole (labels_of (look (codes "start")) (look (codes "end"))) _ (labels-differ (look (codes "start")) (look (codes "end")))
-    (λ labels differ. step AreSets IsWhole (registers_by look) _ (registers-whole look)
+    (λ labels differ. step AreSets IsWhole (registers_by arch look) _ (registers-whole arch look)
     (λ sets listed. step AreNumbers IsWhole (numbers_by look) _ (numbers-whole look)
     (λ numbers few. record {
       input = named.0;
@@ -211,4 +212,4 @@ options-whole look =
       free = listed.1;
       most = few.0;
       turns = few.1;
-    })))))
+    }))))))

@@ -1,10 +1,11 @@
 -- What the words of a command ask for. Source: this project's own command line; names of registers
--- are those of DDI 0487 (A64).
+-- are those of DDI 0487 (A64) and DDI 0403 (Armv7-M).
 use Rattle.std.specs.Prelude.{ℕ, Bool, true, false, ◌==◌, ◌||◌, nat_eq, nat_le, List, [], ◌∷◌, length, drop, codes, Option, None, Some, Result, Ok, Err, if◌then◌else◌}
 use Rattle.std.specs.List.{starts_with, list_all, slice_split}
 use Rattle.std.specs.Str.{bytes_eq}
 use Rattle.std.specs.Char.{is_ascii_alphabetic, is_ascii_alphanumeric}
-use Rattle.sl_model.specs.declared.instruction.ArchName.TheVariants.{Arm64}
+use Rattle.sl_model.specs.declared.instruction.ArchName.{ArchName}
+use Rattle.sl_model.specs.declared.instruction.ArchName.TheVariants.{Arm64, M4}
 use Rattle.sl_model.specs.declared.limits.TheConstants.{STALLS, TURNS}
 use Rattle.sl_model.specs.declared.register.Bank.{Bank}
 use Rattle.sl_model.specs.declared.register.Bank.TheVariants.{General, Vector, Flags, Stack}
@@ -93,29 +94,31 @@ abbrev pub numbered : Option Reg → Result Reg WrongUse
 numbered None = Err wrong_use
 numbered (Some r) = if is_listed_bank r.bank then Ok r else Err wrong_use
 
--- the register that a name of a list names: `flags`, or one of `x0` to `x30` and `v0` to `v31`
-unfoldable pub listed_register : Text → Result Reg WrongUse
-listed_register name =
+-- the register that a name of a list names: `flags`, or one of `x0` to `x30` and `v0` to `v31`, or
+-- of `r0` to `r12`, `lr` and `s0` to `s31`
+unfoldable pub listed_register : ArchName → Text → Result Reg WrongUse
+listed_register arch name =
     if bytes_eq name (codes "flags") then Ok (register_in Flags 0)
-    else numbered (register_named Arm64 name)
+    else numbered (register_named arch name)
 
 -- the registers that names name
-unfoldable pub listed_registers : List Text → Result (List Reg) WrongUse
-listed_registers [] = Ok []
-listed_registers (name ∷ names) = do
-  r ← listed_register name
-  regs ← listed_registers names
+unfoldable pub listed_registers : ArchName → List Text → Result (List Reg) WrongUse
+listed_registers arch [] = Ok []
+listed_registers arch (name ∷ names) = do
+  r ← listed_register arch name
+  regs ← listed_registers arch names
   Ok (r ∷ regs)
 
 -- the set of registers that names name, between commas
-abbrev pub set_listed : Text → Result RegSet WrongUse
-set_listed word = do
-  regs ← listed_registers (slice_split (λ c. c == 44) word)
+abbrev pub set_listed : ArchName → Text → Result RegSet WrongUse
+set_listed arch word = do
+  regs ← listed_registers arch (slice_split (λ c. c == 44) word)
   Ok (set_of regs)
 
 -- the set of a list of registers, which may be `none`
-unfoldable pub register_set : Text → Result RegSet WrongUse
-register_set word = if bytes_eq word (codes "none") then Ok (set_of []) else set_listed word
+unfoldable pub register_set : ArchName → Text → Result RegSet WrongUse
+register_set arch word =
+    if bytes_eq word (codes "none") then Ok (set_of []) else set_listed arch word
 
 -- ---- what is said of each name
 
@@ -135,10 +138,16 @@ mode_of (Some word) = mode_named word
 unfoldable pub suited : (Text → Option Text) → Mode → Result Mode WrongUse
 suited look mode = if suits mode look then Ok mode else Err wrong_use
 
--- The one architecture is `arm64`.
-unfoldable pub architecture : Option Text → Result Unit WrongUse
-architecture None = Ok tt
-architecture (Some word) = if bytes_eq word (codes "arm64") then Ok tt else Err wrong_use
+-- the architecture of a name
+abbrev pub architecture_named : Text → Result ArchName WrongUse
+architecture_named word =
+    if bytes_eq word (codes "arm64") then Ok Arm64
+    else (if bytes_eq word (codes "m4") then Ok M4 else Err wrong_use)
+
+-- the architecture: `arm64` where nothing is said
+unfoldable pub architecture : Option Text → Result ArchName WrongUse
+architecture None = Ok Arm64
+architecture (Some word) = architecture_named word
 
 -- the input: a word that isn't empty
 unfoldable pub input_of : Option Text → Result Text WrongUse
@@ -171,16 +180,16 @@ labels_of first last = do
   two_labels start end
 
 -- the registers that live on, where they are said
-unfoldable pub live_of : Option Text → Result (Option RegSet) WrongUse
-live_of None = Ok None
-live_of (Some word) = do
-  set ← register_set word
+unfoldable pub live_of : ArchName → Option Text → Result (Option RegSet) WrongUse
+live_of arch None = Ok None
+live_of arch (Some word) = do
+  set ← register_set arch word
   Ok (Some set)
 
 -- the registers that are free: none where nothing is said
-unfoldable pub free_of : Option Text → Result RegSet WrongUse
-free_of None = Ok (set_of [])
-free_of (Some word) = register_set word
+unfoldable pub free_of : ArchName → Option Text → Result RegSet WrongUse
+free_of arch None = Ok (set_of [])
+free_of arch (Some word) = register_set arch word
 
 -- ---- the command
 
@@ -188,7 +197,6 @@ free_of (Some word) = register_set word
 unfoldable pub mode_by : (Text → Option Text) → Result Mode WrongUse
 mode_by look = do
   mode ← mode_of (look (codes "MODE"))
-  arch ← architecture (look (codes "arch"))
   suited look mode
 
 -- the files: the input, the core and the state
@@ -201,10 +209,11 @@ files_by look = do
   Ok (input, core, state)
 
 -- the registers: those that live on, and those that are free
-unfoldable pub registers_by : (Text → Option Text) → Result (Option RegSet × RegSet) WrongUse
-registers_by look = do
-  live ← live_of (look (codes "live"))
-  free ← free_of (look (codes "free"))
+unfoldable pub registers_by : ArchName → (Text → Option Text)
+    → Result (Option RegSet × RegSet) WrongUse
+registers_by arch look = do
+  live ← live_of arch (look (codes "live"))
+  free ← free_of arch (look (codes "free"))
   Ok (live, free)
 
 -- the numbers: the most stalls, and the most turns
@@ -218,12 +227,14 @@ numbers_by look = do
 unfoldable pub options_of : (Text → Option Text) → Result Options WrongUse
 options_of look = do
   mode ← mode_by look
+  arch ← architecture (look (codes "arch"))
   files ← files_by look
   labels ← labels_of (look (codes "start")) (look (codes "end"))
-  registers ← registers_by look
+  registers ← registers_by arch look
   numbers ← numbers_by look
   Ok (record {
     mode = mode;
+    arch = arch;
     input = files.0;
     core = files.1;
     start = labels.0;

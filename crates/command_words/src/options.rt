@@ -4,6 +4,7 @@ ghost use Rattle.command_words.specs.declared.options.WordsErr.TheVariants.{NoMe
 
 use crate::WordText;
 use sl_base::NoMemory;
+use sl_model::instruction::ArchName;
 use sl_model::register::RegSet;
 use std::alloc::AllocError;
 
@@ -42,6 +43,8 @@ pub enum CoreWord {
 pub struct Options {
     /// What is done.
     pub mode: Mode,
+    /// The architecture of the region.
+    pub arch: ArchName,
     /// The name of the file, or `-` for standard input.
     pub input: WordText,
     /// The core: there is one exactly for `cost` and `opt`.

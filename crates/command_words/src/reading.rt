@@ -17,7 +17,7 @@ use crate::table::{OptionLine, keeps, option_lines, use_by};
 use crate::values::{architecture, core_of, input_of, mode_of, number_or, state_of};
 use crate::{CoreWord, MOST_STALLS, Mode, Options, TURNS_UNSAID, WordText, WordsErr};
 use clap::ArgMatches;
-use sl_isa::RegSet;
+use sl_isa::{ArchName, RegSet};
 use sl_model::limits::{STALLS, TURNS};
 use std::alloc::Global;
 
@@ -60,7 +60,6 @@ fn mode_by(matches: &ArgMatches<'_>) -> Result<Mode, WordsErr>
         (spec.mode_by (first_value (found_of matches.now))) }
 {
     let mode = mode_of(matches.get_str("MODE"))?;
-    architecture(matches.get_str("arch"))?;
     suited(matches, mode)
 }
 
@@ -83,13 +82,14 @@ fn files_by(
 #[tactic(auto, unfolding(crate::specs::Command::registers_by))]
 fn registers_by(
     alloc: Global,
+    arch: ArchName,
     matches: &ArgMatches<'_>,
 ) -> Result<(Option<RegSet>, RegSet), WordsErr>
     ensures { Gives usage_of (λ sets. sets) result
-        (spec.registers_by (first_value (found_of matches.now))) }
+        (spec.registers_by arch (first_value (found_of matches.now))) }
 {
-    let live = live_of(alloc, matches.get_str("live"))?;
-    let free = free_of(alloc, matches.get_str("free"))?;
+    let live = live_of(alloc, arch, matches.get_str("live"))?;
+    let free = free_of(alloc, arch, matches.get_str("free"))?;
     Ok((live, free))
 }
 
@@ -115,12 +115,14 @@ fn options_of(alloc: Global, matches: &ArgMatches<'_>) -> Result<Options, WordsE
         (spec.options_of (first_value (found_of matches.now))) }
 {
     let mode = mode_by(matches)?;
+    let arch = architecture(matches.get_str("arch"))?;
     let (input, core, state) = files_by(alloc, matches)?;
     let (start, end) = labels_of(alloc, matches.get_str("start"), matches.get_str("end"))?;
-    let (live, free) = registers_by(alloc, matches)?;
+    let (live, free) = registers_by(alloc, arch, matches)?;
     let (most, turns) = numbers_by(matches)?;
     Ok(Options {
         mode,
+        arch,
         input,
         core,
         start,

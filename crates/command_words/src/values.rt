@@ -5,6 +5,7 @@ ghost use Rattle.command_words.specs.Answer.{usage_of};
 ghost use Rattle.command_words.specs.Command as spec;
 
 use crate::{CoreWord, LATENCY, Mode, WordText, WordsErr};
+use sl_model::instruction::ArchName;
 use sl_text::{Numeral, decimal_value};
 use std::alloc::Global;
 
@@ -137,17 +138,18 @@ pub(crate) fn mode_of(word: Option<&str>) -> Result<Mode, WordsErr>
     }
 }
 
-/// The architecture, which can only be `arm64`.
+/// The architecture: `arm64` where nothing is said.
 #[tactic(auto, unfolding(crate::specs::Command::architecture))]
-pub(crate) fn architecture(word: Option<&str>) -> Result<(), WordsErr>
-    ensures { Gives usage_of (λ done. done) result
+pub(crate) fn architecture(word: Option<&str>) -> Result<ArchName, WordsErr>
+    ensures { Gives usage_of (λ arch. arch) result
         (spec.architecture (option_map (λ text. text.now) word.entry)) }
 {
     let Some(word) = word else {
-        return Ok(());
+        return Ok(ArchName::Arm64);
     };
-    if word == "arm64" {
-        return Ok(());
+    match word {
+        "arm64" => Ok(ArchName::Arm64),
+        "m4" => Ok(ArchName::M4),
+        _ => Err(WordsErr::Usage),
     }
-    Err(WordsErr::Usage)
 }

@@ -7,17 +7,20 @@ use Rattle.std.proofs.lemmas.Bool.{and_parts, and_from, leb-true, lt-ltb}
 use Rattle.std.proofs.lemmas.Nat.{mod_below, pow_pos}
 use Rattle.std.proofs.lemmas.List.{length-append}
 use Rattle.sl_model.specs.declared.register.Bank.{Bank}
-use Rattle.sl_model.specs.declared.instruction.ArchName.TheVariants.{Arm64}
+use Rattle.sl_model.specs.declared.register.Bank.TheVariants.{General}
+use Rattle.sl_model.specs.declared.instruction.ArchName.{ArchName}
+use Rattle.sl_model.specs.declared.instruction.ArchName.TheVariants.{Arm64, M4}
 use Rattle.sl_model.specs.Isa.{address_at}
-use Rattle.sl_model.specs.Machine.{limit_of}
+use Rattle.sl_model.specs.Machine.{space_of, limit_of}
 use Rattle.sl_model.specs.Lawful.{are_bytes}
 use Rattle.sl_isa.specs.declared.meaning.Addressing.{Addressing}
 use Rattle.sl_isa.specs.declared.meaning.Addressing.TheVariants.{Kept, Before, After}
 use Rattle.sl_isa.specs.declared.meaning.Transfer.{Transfer}
+use Rattle.bit_ops.specs.Bits.{extended}
 use Rattle.lane_ops.specs.Lanes.{lanes_of, joined}
 use Rattle.lane_ops.proofs.ForCallers.{joined_below, length-lanes_of}
-use Rattle.form_isa.specs.Access.{width_bytes, register_count, transfer_size, first_number, new_base, loaded_values, stored_bytes, transfer_values, transfer_bytes}
-use Rattle.form_isa.specs.LawfulTable.{loaded_banks, base_banks, transfer_banks, has_room}
+use Rattle.form_isa.specs.Access.{width_bytes, register_count, transfer_size, first_number, new_base, loaded_value, loaded_values, stored_bytes, transfer_values, transfer_bytes}
+use Rattle.form_isa.specs.LawfulTable.{loaded_banks, base_banks, transfer_banks, has_room, loaded_bits}
 use Rattle.form_isa.proofs.Outputs.{FitBanks}
 
 -- a number of so many bytes
@@ -32,58 +35,79 @@ bytes-below n xs = joined_below 8 (take n xs) n (take-few n xs)
 less-than : (x m n : ℕ) → x < m → m ≤ n → x < n
 less-than x m n h g = omega (arith, h, g)
 
--- what is loaded fits
-loaded-fit : (pair : Bool) (b : Bank) (bytes : ℕ) (loaded : List ℕ) → has_room b bytes ≡ true →
-    FitBanks (loaded_banks pair b) (loaded_values pair bytes loaded)
-unfolding loaded_values
-loaded-fit pair b bytes loaded room = both pair
-  where
-    low : (xs : List ℕ) → joined 8 (take bytes xs) < limit_of Arm64 b
-    low xs = less-than _ _ _ (bytes-below bytes xs) (leb-true (2 ^ (8 * bytes)) (limit_of Arm64 b) room)
+-- so does it with copies of its sign above it
+filled-below : (few : Bool) (x bytes : ℕ) → x < 2 ^ (8 * bytes) →
+    cond few (extended (8 * bytes) x % 2 ^ 32) x < 2 ^ cond few 32 (8 * bytes)
+filled-below true x bytes h = mod_below (extended (8 * bytes) x) (2 ^ 32) (pow_pos 32)
+filled-below false x bytes h = h
 
-    both : (p : Bool) → FitBanks (loaded_banks p b) (loaded_values p bytes loaded)
+value-below : (signed : Bool) (bytes : ℕ) (loaded : List ℕ) →
+    loaded_value signed bytes loaded < 2 ^ cond signed (cond (nat_lt bytes 4) 32 (8 * bytes)) (8 * bytes)
+value-below false bytes loaded = bytes-below bytes loaded
+value-below true bytes loaded = filled-below (nat_lt bytes 4) (joined 8 (take bytes loaded)) bytes (bytes-below bytes loaded)
+
+-- what is loaded fits
+loaded-fit : (name : ArchName) (t : Transfer) (loaded : List ℕ) → has_room name t.bank (loaded_bits t) ≡ true →
+    FitBanks name (loaded_banks t.pair t.bank) (loaded_values t.signed t.pair (width_bytes t.width) loaded)
+unfolding loaded_values
+loaded-fit name t loaded room = both t.pair
+  where
+    bytes : ℕ
+    bytes = width_bytes t.width
+
+    low : (xs : List ℕ) → loaded_value t.signed bytes xs < limit_of name t.bank
+    low xs = less-than _ _ _ (value-below t.signed bytes xs) (leb-true (2 ^ loaded_bits t) (limit_of name t.bank) room)
+
+    both : (p : Bool) → FitBanks name (loaded_banks p t.bank) (loaded_values t.signed p bytes loaded)
     both false = (low loaded, tt)
     both true = (low loaded, (low (drop bytes loaded), tt))
 
-loaded-count : (pair : Bool) (b : Bank) (bytes : ℕ) (loaded : List ℕ) →
-    length (loaded_values pair bytes loaded) ≡ length (loaded_banks pair b)
+loaded-count : (signed pair : Bool) (b : Bank) (bytes : ℕ) (loaded : List ℕ) →
+    length (loaded_values signed pair bytes loaded) ≡ length (loaded_banks pair b)
 unfolding loaded_values
-loaded-count false b bytes loaded = refl
-loaded-count true b bytes loaded = refl
+loaded-count signed false b bytes loaded = refl
+loaded-count signed true b bytes loaded = refl
 
 -- an address is below the number of addresses
 rem-below : (z : ℤ) (m : ℕ) → 0 < m → unsigned_abs (int_rem_euclid z (pos m)) < m
 rem-below (pos a) m h = mod_below a m h
 rem-below (negsuc a) m h = omega (arith, h)
 
-base-fits : (addressing : Addressing) (imms : List ℤ) (base : ℕ) →
-    FitBanks (base_banks addressing) (new_base (2 ^ 64) addressing imms base)
+-- and so fits a general register
+address-fits : (name : ArchName) (base : ℕ) (offset : ℤ) → address_at (space_of name) base offset < limit_of name General
 unfolding address_at
-base-fits Kept imms base = tt
-base-fits Before imms base = (rem-below (pos base +ℤ first_number imms) (2 ^ 64) (pow_pos 64), tt)
-base-fits After imms base = (rem-below (pos base +ℤ first_number imms) (2 ^ 64) (pow_pos 64), tt)
+address-fits Arm64 base offset = rem-below (pos base +ℤ offset) (2 ^ 64) (pow_pos 64)
+address-fits M4 base offset = rem-below (pos base +ℤ offset) (2 ^ 32) (pow_pos 32)
 
-base-count : (addressing : Addressing) (imms : List ℤ) (base : ℕ) →
-    length (new_base (2 ^ 64) addressing imms base) ≡ length (base_banks addressing)
-base-count Kept imms base = refl
-base-count Before imms base = refl
-base-count After imms base = refl
+base-fits : (name : ArchName) (addressing : Addressing) (imms : List ℤ) (base : ℕ) →
+    FitBanks name (base_banks addressing) (new_base (space_of name) addressing imms base)
+base-fits name Kept imms base = tt
+base-fits name Before imms base = (address-fits name base (first_number imms), tt)
+base-fits name After imms base = (address-fits name base (first_number imms), tt)
+
+base-count : (space : ℕ) (addressing : Addressing) (imms : List ℤ) (base : ℕ) →
+    length (new_base space addressing imms base) ≡ length (base_banks addressing)
+base-count space Kept imms base = refl
+base-count space Before imms base = refl
+base-count space After imms base = refl
 
 -- values of banks, one behind the other
-fit-append : (bs more : List Bank) (values others : List ℕ) → length values ≡ length bs → FitBanks bs values →
-    FitBanks more others → FitBanks (bs ++ more) (values ++ others)
-fit-append [] more [] others e f g = g
-fit-append [] more (v ∷ values) others e f g = absurd cc
-fit-append (b ∷ bs) more [] others e f g = absurd cc
-fit-append (b ∷ bs) more (v ∷ values) others e f g =
+fit-append : (name : ArchName) (bs more : List Bank) (values others : List ℕ) → length values ≡ length bs →
+    FitBanks name bs values →
+    FitBanks name more others → FitBanks name (bs ++ more) (values ++ others)
+fit-append name [] more [] others e f g = g
+fit-append name [] more (v ∷ values) others e f g = absurd cc
+fit-append name (b ∷ bs) more [] others e f g = absurd cc
+fit-append name (b ∷ bs) more (v ∷ values) others e f g =
     let same : length values ≡ length bs = omega (arith, e) in
-    (f.0, fit-append bs more values others same f.1 g)
+    (f.0, fit-append name bs more values others same f.1 g)
 
-chosen-fit : (store : Bool) (bs more : List Bank) (values others : List ℕ) → length values ≡ length bs → FitBanks bs values →
-    FitBanks more others →
-    FitBanks ((cond store [] bs) ++ more) ((cond store [] values) ++ others)
-chosen-fit true bs more values others e f g = g
-chosen-fit false bs more values others e f g = fit-append bs more values others e f g
+chosen-fit : (name : ArchName) (store : Bool) (bs more : List Bank) (values others : List ℕ) → length values ≡ length bs →
+    FitBanks name bs values →
+    FitBanks name more others →
+    FitBanks name ((cond store [] bs) ++ more) ((cond store [] values) ++ others)
+chosen-fit name true bs more values others e f g = g
+chosen-fit name false bs more values others e f g = fit-append name bs more values others e f g
 
 chosen-count : (store : Bool) (bs more : List Bank) (values others : List ℕ) → length values ≡ length bs →
     length others ≡ length more →
@@ -92,20 +116,23 @@ chosen-count true bs more values others e f = f
 chosen-count false bs more values others e f =
     length-append values others ∙ (ap (λ n. n + length others) e ∙ (ap (λ n. length bs + n) f ∙ sym (length-append bs more)))
 
-pub transfer-fit : (t : Transfer) (imms : List ℤ) (ins loaded : List ℕ) → has_room t.bank (width_bytes t.width) ≡ true →
-    FitBanks (transfer_banks t) (transfer_values (2 ^ 64) t imms ins loaded)
+pub transfer-fit : (name : ArchName) (t : Transfer) (imms : List ℤ) (ins loaded : List ℕ) →
+    has_room name t.bank (loaded_bits t) ≡ true →
+    FitBanks name (transfer_banks t) (transfer_values (space_of name) t imms ins loaded)
 unfolding transfer_values
-transfer-fit t imms ins loaded room =
-    chosen-fit t.store (loaded_banks t.pair t.bank) (base_banks t.addressing) (loaded_values t.pair (width_bytes t.width) loaded) _
-    (loaded-count t.pair t.bank (width_bytes t.width) loaded)
-    (loaded-fit t.pair t.bank (width_bytes t.width) loaded room) (base-fits t.addressing imms _)
+transfer-fit name t imms ins loaded room =
+    chosen-fit name t.store (loaded_banks t.pair t.bank) (base_banks t.addressing)
+    (loaded_values t.signed t.pair (width_bytes t.width) loaded) _
+    (loaded-count t.signed t.pair t.bank (width_bytes t.width) loaded)
+    (loaded-fit name t loaded room) (base-fits name t.addressing imms _)
 
-pub transfer-count : (t : Transfer) (imms : List ℤ) (ins loaded : List ℕ) →
-    length (transfer_values (2 ^ 64) t imms ins loaded) ≡ length (transfer_banks t)
+pub transfer-count : (space : ℕ) (t : Transfer) (imms : List ℤ) (ins loaded : List ℕ) →
+    length (transfer_values space t imms ins loaded) ≡ length (transfer_banks t)
 unfolding transfer_values
-transfer-count t imms ins loaded =
-    chosen-count t.store (loaded_banks t.pair t.bank) (base_banks t.addressing) (loaded_values t.pair (width_bytes t.width) loaded) _
-    (loaded-count t.pair t.bank (width_bytes t.width) loaded) (base-count t.addressing imms _)
+transfer-count space t imms ins loaded =
+    chosen-count t.store (loaded_banks t.pair t.bank) (base_banks t.addressing)
+    (loaded_values t.signed t.pair (width_bytes t.width) loaded) _
+    (loaded-count t.signed t.pair t.bank (width_bytes t.width) loaded) (base-count space t.addressing imms _)
 
 -- An access has at most three outputs.
 pub transfer-few : (t : Transfer) → length (transfer_banks t) ≤ 3

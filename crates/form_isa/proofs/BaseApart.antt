@@ -4,14 +4,17 @@ use Rattle.std.specs.Prelude.{Option, Some, None, is_some, slice_get, option_and
 use Rattle.std.proofs.lemmas.Bool.{cases_Bool, eqb-true}
 use Rattle.std.proofs.lemmas.Bool.Decides.{nat_tests}
 use Rattle.std.proofs.lemmas.List.{append-nil}
+use Rattle.sl_model.specs.declared.register.Bank.TheVariants.{General}
 use Rattle.sl_model.specs.declared.register.Reg.{Reg}
 use Rattle.sl_model.specs.declared.register.RegSet.{RegSet}
+use Rattle.sl_model.specs.declared.instruction.ArchName.{ArchName}
 use Rattle.sl_model.specs.Register.{same_reg}
 use Rattle.sl_model.specs.Source.{padded}
 use Rattle.sl_model.specs.Lawful.{is_alone, is_base_alone}
 use Rattle.sl_isa.specs.declared.meaning.Transfer.{Transfer}
 use Rattle.sl_isa.specs.declared.meaning.Meaning.{Meaning}
 use Rattle.sl_isa.specs.declared.meaning.Meaning.TheVariants as meaning
+use Rattle.scalar_ops.specs.Scalar.{result_bits}
 use Rattle.form_table.specs.Rows.{row_operands}
 use Rattle.form_table.specs.Reads.{is_picked, kept, picked, registers_suit, all_placed, stands_in, base_repeats, shares_base}
 use Rattle.form_table.specs.Printed.{has_register}
@@ -24,12 +27,13 @@ use Rattle.form_table.specs.declared.reader.Pick.TheVariants as pick
 use Rattle.form_table.proofs.ForCallers.{Shaped}
 use Rattle.form_isa.specs.Access.{base_place, writes_back}
 use Rattle.form_isa.specs.Info.{classes, places_of, input_classes, back_place, info_of}
-use Rattle.form_isa.specs.LawfulTable.{suits_meaning}
+use Rattle.form_isa.specs.LawfulTable.{has_room, has_vector_room, lacks_base, suits_meaning}
 use Rattle.form_isa.proofs.Places.{flags_among, read_regs, all_placed-padded}
 use Rattle.form_isa.proofs.Suits.{picked-of, read-of, of-count}
 use Rattle.form_isa.proofs.Tests.{SuitsTransfer, suits-transfer}
 use Rattle.sl_laws.proofs.Registers.{same_reg-refl, same_reg-comm, same_reg-true}
 use Rattle.sl_laws.proofs.Elements.{slice_get-seam}
+use Rattle.sl_laws.proofs.Tests.{then_parts}
 
 -- ---- a register behind others is alone where it isn't among them
 
@@ -268,10 +272,10 @@ without-back row helds s suit none =
     ∙ sym (ap not (shares-is row helds ∙ ap (λ bs. base_repeats (padded 1 bs) (padded 4 (picked pick.Data (row_operands row) helds))) empty))
 
 -- where the last register that is read is
-with-back : (t : Transfer) (row : Row) (helds : List Held) → SuitsTransfer t row → Shaped (row_operands row) helds → registers_suit (row_operands row) helds ≡ true
+with-back : (name : ArchName) (t : Transfer) (row : Row) (helds : List Held) → SuitsTransfer name t row → Shaped (row_operands row) helds → registers_suit (row_operands row) helds ≡ true
     → length (input_classes row) ≤ 4 → places_of pick.Back 0 (row_operands row) ≡ base_place t ∷ [] → IsAsRead row helds
 unfolding info_of
-with-back t row helds suits s suit few back =
+with-back name t row helds suits s suit few back =
     let carried : List Reg = picked pick.Data (row_operands row) helds in
     let reads : List Reg = picked pick.Read (row_operands row) helds in
     let more : List Reg = picked pick.Tied (row_operands row) helds ++ flags_among row.reads_flags in
@@ -302,15 +306,24 @@ with-back t row helds suits s suit few back =
     has-back [] n e = absurd (omega arith)
     has-back (set ∷ sets) n e = refl
 
-by-back : (writes : Bool) (t : Transfer) (row : Row) (helds : List Held) → writes_back t.addressing ≡ writes → SuitsTransfer t row → Shaped (row_operands row) helds
+by-back : (name : ArchName) (writes : Bool) (t : Transfer) (row : Row) (helds : List Held) → writes_back t.addressing ≡ writes → SuitsTransfer name t row → Shaped (row_operands row) helds
     → registers_suit (row_operands row) helds ≡ true → length (input_classes row) ≤ 4 → IsAsRead row helds
-by-back true t row helds is suits s suit few = with-back t row helds suits s suit few (suits.back ∙ ap (λ w. cond w (base_place t ∷ []) []) is)
-by-back false t row helds is suits s suit few =
+by-back name true t row helds is suits s suit few = with-back name t row helds suits s suit few (suits.back ∙ ap (λ w. cond w (base_place t ∷ []) []) is)
+by-back name false t row helds is suits s suit few =
     without-back row helds s suit (no-back (row_operands row) 0 (suits.back ∙ ap (λ w. cond w (base_place t ∷ []) []) is))
 
+-- Where a row has no base, none is written back.
+no-base-alone : (row : Row) (helds : List Held) (room : Bool) → cond room (lacks_base row) false ≡ true → Shaped (row_operands row) helds
+    → registers_suit (row_operands row) helds ≡ true → IsAsRead row helds
+no-base-alone row helds room e s suit =
+    let none : length (classes pick.Base (row_operands row)) ≡ 0 = eqb-true _ 0 (then_parts room (lacks_base row) e).1 in
+    without-back row helds s suit (no-base (row_operands row) none)
+
 -- A base that is written back is alone among the registers that are read exactly where reading doesn't find it among the data.
-pub base-apart : (m : Meaning) (row : Row) (helds : List Held) → suits_meaning m row ≡ true → length (input_classes row) ≤ 4 → Shaped (row_operands row) helds
+pub base-apart : (name : ArchName) (m : Meaning) (row : Row) (helds : List Held) → suits_meaning name m row ≡ true → length (input_classes row) ≤ 4 → Shaped (row_operands row) helds
     → registers_suit (row_operands row) helds ≡ true → is_base_alone same_reg (info_of row) (read_regs row helds) ≡ not (shares_base row helds)
-base-apart (meaning.Scalar op size) row helds e few s suit = without-back row helds s suit (no-base (row_operands row) (eqb-true (length (classes pick.Base (row_operands row))) 0 e))
-base-apart (meaning.Vector op) row helds e few s suit = without-back row helds s suit (no-base (row_operands row) (eqb-true (length (classes pick.Base (row_operands row))) 0 e))
-base-apart (meaning.Memory t) row helds e few s suit = by-back (writes_back t.addressing) t row helds refl (suits-transfer t row e) s suit few
+base-apart name (meaning.Scalar op size) row helds e few s suit = no-base-alone row helds (has_room name General (result_bits op size)) e s suit
+base-apart name (meaning.Vector op) row helds e few s suit = no-base-alone row helds (has_vector_room name op) e s suit
+base-apart name (meaning.Word op) row helds e few s suit = no-base-alone row helds (has_room name General 32) e s suit
+base-apart name (meaning.Copy b) row helds e few s suit = no-base-alone row helds (has_room name b 32) e s suit
+base-apart name (meaning.Memory t) row helds e few s suit = by-back name (writes_back t.addressing) t row helds refl (suits-transfer name t row e) s suit few

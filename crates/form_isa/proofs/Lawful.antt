@@ -7,7 +7,6 @@ use Rattle.std.proofs.lemmas.Int.{ints}
 use Rattle.std.proofs.lemmas.Option.{slice_get_within, same_Some}
 use Rattle.sl_model.specs.declared.register.Reg.{Reg}
 use Rattle.sl_model.specs.declared.instruction.ArchName.{ArchName}
-use Rattle.sl_model.specs.declared.instruction.ArchName.TheVariants.{Arm64}
 use Rattle.sl_model.specs.declared.instruction.Instr.{Instr}
 use Rattle.sl_model.specs.Source.{outputs}
 use Rattle.sl_model.specs.Isa.{Op, op_of}
@@ -37,16 +36,16 @@ use Rattle.form_isa.proofs.Values.{AreBounded, values-count, values-fit, bytes-c
 use Rattle.sl_laws.proofs.Tests.{then_parts}
 
 -- each row of a lawful table is lawful
-pub lawful-at : (table : List Row) (k : ℕ) (row : Row) → is_lawful_table table ≡ true → slice_get table k ≡ Some row →
-    is_lawful_row row ≡ true
+pub lawful-at : (name : ArchName) (table : List Row) (k : ℕ) (row : Row) → is_lawful_table name table ≡ true → slice_get table k ≡ Some row →
+    is_lawful_row name row ≡ true
 unfolding is_lawful_table
-lawful-at [] k row e at = absurd cc
-lawful-at (r ∷ rows) zero row e at =
-    subst (λ v. is_lawful_row v ≡ true) (same_Some r row at) (then_parts (is_lawful_row r) (is_lawful_table rows) e).0
-lawful-at (r ∷ rows) (suc k) row e at = lawful-at rows k row (then_parts (is_lawful_row r) (is_lawful_table rows) e).1 at
+lawful-at name [] k row e at = absurd cc
+lawful-at name (r ∷ rows) zero row e at =
+    subst (λ v. is_lawful_row name v ≡ true) (same_Some r row at) (then_parts (is_lawful_row name r) (is_lawful_table name rows) e).0
+lawful-at name (r ∷ rows) (suc k) row e at = lawful-at name rows k row (then_parts (is_lawful_row name r) (is_lawful_table name rows) e).1 at
 
-lawful-outputs : (row : Row) → is_lawful_row row ≡ true → are_only_of (banks_of row.meaning) (output_classes row) ≡ true
-lawful-outputs row e = (lawful-row row e).outputs
+lawful-outputs : (name : ArchName) (row : Row) → is_lawful_row name row ≡ true → are_only_of (banks_of row.meaning) (output_classes row) ≡ true
+lawful-outputs name row e = (lawful-row name row e).outputs
 
 -- the form of an instruction is one of the table
 known-form : (o : Option Row) (op : Op) → is_valid o op ≡ true → (row : Row) × (o ≡ Some row)
@@ -54,11 +53,11 @@ known-form None op e = absurd (false≢true e)
 known-form (Some row) op e = (row, refl)
 
 -- An instruction of a form writes registers of the banks of the form's meaning.
-writes-banks : (table : List Row) (row : Row) (i : Instr) → is_lawful_row row ≡ true → slice_get table i.form ≡ Some row →
-    IsValid (table_isa Arm64 table) i → banks (outputs i) ≡ banks_of row.meaning
+writes-banks : (name : ArchName) (table : List Row) (row : Row) (i : Instr) → is_lawful_row name row ≡ true → slice_get table i.form ≡ Some row →
+    IsValid (table_isa name table) i → banks (outputs i) ≡ banks_of row.meaning
 unfolding table_isa info_of
-writes-banks table row i lawful at v =
-    outputs-banks 3 (banks_of row.meaning) (output_classes row) (outputs i) (lawful-outputs row lawful) (banks-few row.meaning)
+writes-banks name table row i lawful at v =
+    outputs-banks 3 (banks_of row.meaning) (output_classes row) (outputs i) (lawful-outputs name row lawful) (banks-few row.meaning)
     (v.output_count ∙ ap (λ o. set_count (info_at o).out_sets) at)
     (subst (λ o. list_all suits_set (zip (outputs i) (info_at o).out_sets) ≡ true) at v.output_classes)
 
@@ -73,37 +72,39 @@ length-banks : (regs : List Reg) → length (banks regs) ≡ length regs
 length-banks [] = refl
 length-banks (r ∷ regs) = ap suc (length-banks regs)
 
-count-values : (table : List Row) (row : Row) (i : Instr) (ins loaded : List ℕ) → AreBounded → is_lawful_row row ≡ true →
+count-values : (name : ArchName) (table : List Row) (row : Row) (i : Instr) (ins loaded : List ℕ) → AreBounded → is_lawful_row name row ≡ true →
     slice_get table i.form ≡ Some row →
-    IsValid (table_isa Arm64 table) i → length ((table_isa Arm64 table).values (op_of i) ins loaded) ≡ length (outputs i)
-count-values table row i ins loaded known lawful at v =
-    ap length (values-of Arm64 table i row ins loaded at) ∙ (values-count row.meaning i.imms ins loaded known
-    ∙ (ap length (sym (writes-banks table row i lawful at v)) ∙ length-banks (outputs i)))
+    IsValid (table_isa name table) i → length ((table_isa name table).values (op_of i) ins loaded) ≡ length (outputs i)
+count-values name table row i ins loaded known lawful at v =
+    ap length (values-of name table i row ins loaded at) ∙ (values-count name row.meaning i.imms ins loaded known
+    ∙ (ap length (sym (writes-banks name table row i lawful at v)) ∙ length-banks (outputs i)))
 
-fit-values : (table : List Row) (row : Row) (i : Instr) (ins loaded : List ℕ) → AreBounded → is_lawful_row row ≡ true →
+fit-values : (name : ArchName) (table : List Row) (row : Row) (i : Instr) (ins loaded : List ℕ) → AreBounded → is_lawful_row name row ≡ true →
     slice_get table i.form ≡ Some row →
-    IsValid (table_isa Arm64 table) i →
-    fit (table_isa Arm64 table) (outputs i) ((table_isa Arm64 table).values (op_of i) ins loaded) ≡ true
+    IsValid (table_isa name table) i →
+    fit (table_isa name table) (outputs i) ((table_isa name table).values (op_of i) ins loaded) ≡ true
 unfolding table_isa
-fit-values table row i ins loaded known lawful at v =
-    fitting (outputs i) (row_values Arm64 (slice_get table i.form) i.imms ins loaded)
-    (subst (λ bs. FitBanks bs (row_values Arm64 (slice_get table i.form) i.imms ins loaded))
-    (sym (writes-banks table row i lawful at v))
-    (subst (λ o. FitBanks (banks_of row.meaning) (row_values Arm64 o i.imms ins loaded)) (sym at)
-    (values-fit row.meaning row i.imms ins loaded known (lawful-row row lawful).suits)))
+fit-values name table row i ins loaded known lawful at v =
+    fitting name (outputs i) (row_values name (slice_get table i.form) i.imms ins loaded)
+    (subst (λ bs. FitBanks name bs (row_values name (slice_get table i.form) i.imms ins loaded))
+    (sym (writes-banks name table row i lawful at v))
+    (subst (λ o. FitBanks name (banks_of row.meaning) (row_values name o i.imms ins loaded)) (sym at)
+    (values-fit name row.meaning row i.imms ins loaded known (lawful-row name row lawful).suits)))
 
 -- No form writes the zero register.
-lacks_zero-at : (table : List Row) (form : ℕ) → is_lawful_table table ≡ true → (o : Option Row) → slice_get table form ≡ o →
+lacks_zero-at : (name : ArchName) (table : List Row) (form : ℕ) → is_lawful_table name table ≡ true → (o : Option Row) → slice_get table form ≡ o →
     list_any (λ set. set_has set zero_register) (info_at o).out_sets ≡ false
 unfolding info_of
-lacks_zero-at table form e None at = padding-lacks_zero 3
-lacks_zero-at table form e (Some row) at =
-    outputs-lack_zero 3 (banks_of row.meaning) (output_classes row) (lawful-outputs row (lawful-at table form row e at))
+lacks_zero-at name table form e None at = padding-lacks_zero 3
+lacks_zero-at name table form e (Some row) at =
+    outputs-lack_zero 3 (banks_of row.meaning) (output_classes row) (lawful-outputs name row (lawful-at name table form row e at))
 
 -- An access is small.
 size-small : (m : Meaning) → size_of m ≤ 32
 size-small (meaning.Scalar op size) = omega arith
 size-small (meaning.Vector op) = omega arith
+size-small (meaning.Word op) = omega arith
+size-small (meaning.Copy b) = omega arith
 size-small (meaning.Memory t) = transfer-small t.pair t.width
   where
     transfer-small : (pair : Bool) (w : Width) → register_count pair * width_bytes w ≤ 32
@@ -127,20 +128,22 @@ sizes-small (Some row) = size-small row.meaning
 none-smaller : nat_lt 0 0 ≡ true → ⊥
 none-smaller e = false≢true e
 
-meaning-base : (m : Meaning) (row : Row) → suits_meaning m row ≡ true → nat_lt 0 (size_of m) ≡ true →
+meaning-base : (name : ArchName) (m : Meaning) (row : Row) → suits_meaning name m row ≡ true → nat_lt 0 (size_of m) ≡ true →
     IsBelow (slice_get (places_of pick.Base 0 (row_operands row)) 0) (set_count (padded_classes 4 (input_classes row)))
-meaning-base (meaning.Scalar op size) row e some = absurd (none-smaller some)
-meaning-base (meaning.Vector op) row e some = absurd (none-smaller some)
-meaning-base (meaning.Memory t) row e some =
-    let s : SuitsTransfer t row = suits-transfer t row e in
+meaning-base name (meaning.Scalar op size) row e some = absurd (none-smaller some)
+meaning-base name (meaning.Vector op) row e some = absurd (none-smaller some)
+meaning-base name (meaning.Word op) row e some = absurd (none-smaller some)
+meaning-base name (meaning.Copy b) row e some = absurd (none-smaller some)
+meaning-base name (meaning.Memory t) row e some =
+    let s : SuitsTransfer name t row = suits-transfer name t row e in
     subst (λ places. IsBelow (slice_get places 0) (set_count (padded_classes 4 (input_classes row)))) (sym s.base) s.input
 
-has-base : (table : List Row) (form : ℕ) → is_lawful_table table ≡ true → (o : Option Row) → slice_get table form ≡ o →
+has-base : (name : ArchName) (table : List Row) (form : ℕ) → is_lawful_table name table ≡ true → (o : Option Row) → slice_get table form ≡ o →
     has_access (info_at o) ≡ true → IsBelow (info_at o).base (set_count (info_at o).in_sets)
 unfolding info_of
-has-base table form e None at some = absurd (none-smaller some)
-has-base table form e (Some row) at some =
-    meaning-base row.meaning row (lawful-row row (lawful-at table form row e at)).suits some
+has-base name table form e None at some = absurd (none-smaller some)
+has-base name table form e (Some row) at some =
+    meaning-base name row.meaning row (lawful-row name row (lawful-at name table form row e at)).suits some
 
 -- Its offset is small.
 record IsNear (n : ℤ) : Type 0 where
@@ -181,26 +184,33 @@ addressed-near Kept imms near = near
 addressed-near Before imms near = near
 addressed-near After imms near = zero-near
 
-meaning-near : (m : Meaning) (row : Row) (imms : List ℤ) → suits_meaning m row ≡ true →
+meaning-near : (name : ArchName) (m : Meaning) (row : Row) (imms : List ℤ) → suits_meaning name m row ≡ true →
     numbers_fit (ranges (row_operands row)) imms ≡ true → IsNear (meaning_offset m imms)
-meaning-near (meaning.Scalar op size) row imms e fits = zero-near
-meaning-near (meaning.Vector op) row imms e fits = zero-near
-meaning-near (meaning.Memory t) row imms e fits =
-    addressed-near t.addressing imms (numbers-near (ranges (row_operands row)) imms (suits-transfer t row e).near fits)
+meaning-near name (meaning.Scalar op size) row imms e fits = zero-near
+meaning-near name (meaning.Vector op) row imms e fits = zero-near
+meaning-near name (meaning.Word op) row imms e fits = zero-near
+meaning-near name (meaning.Copy b) row imms e fits = zero-near
+meaning-near name (meaning.Memory t) row imms e fits =
+    addressed-near t.addressing imms (numbers-near (ranges (row_operands row)) imms (suits-transfer name t row e).near fits)
+
+-- An instruction of a table isn't wide.
+taken-narrow : (wide taken : Bool) → cond wide false taken ≡ true → (wide ≡ false) × (taken ≡ true)
+taken-narrow true taken e = absurd (false≢true e)
+taken-narrow false taken e = (refl, e)
+
+pub not_wide : (o : Option Row) (op : Op) → is_valid o op ≡ true → op.wide ≡ false
+not_wide None op e = absurd (false≢true e)
+not_wide (Some row) op e = (taken-narrow op.wide _ e).0
 
 numbers-taken : (row : Row) (o : Op) → is_valid (Some row) o ≡ true → numbers_fit (ranges (row_operands row)) o.imms ≡ true
 unfolding takes
-numbers-taken row o e = (then_parts (numbers_fit (ranges (row_operands row)) o.imms) _ (not-wide o.wide _ e)).0
-  where
-    not-wide : (wide taken : Bool) → cond wide false taken ≡ true → taken ≡ true
-    not-wide true taken e = absurd (false≢true e)
-    not-wide false taken e = e
+numbers-taken row o e = (then_parts (numbers_fit (ranges (row_operands row)) o.imms) _ (taken-narrow o.wide _ e).1).0
 
-offset-near : (table : List Row) (op : Op) → is_lawful_table table ≡ true → (o : Option Row) → slice_get table op.form ≡ o →
+offset-near : (name : ArchName) (table : List Row) (op : Op) → is_lawful_table name table ≡ true → (o : Option Row) → slice_get table op.form ≡ o →
     is_valid o op ≡ true → IsNear (row_offset o op.imms)
-offset-near table op e None at v = absurd (false≢true v)
-offset-near table op e (Some row) at v =
-    meaning-near row.meaning row op.imms (lawful-row row (lawful-at table op.form row e at)).suits (numbers-taken row op v)
+offset-near name table op e None at v = absurd (false≢true v)
+offset-near name table op e (Some row) at v =
+    meaning-near name row.meaning row op.imms (lawful-row name row (lawful-at name table op.form row e at)).suits (numbers-taken row op v)
 
 -- It stores as many bytes as it has.
 row-stores : (o : Option Row) (ins : List ℕ) → is_store (info_at o) ≡ true → length (row_bytes o ins) ≡ (info_at o).size
@@ -213,21 +223,21 @@ row-bytes : (o : Option Row) (ins : List ℕ) → are_bytes (row_bytes o ins) �
 row-bytes None ins = refl
 row-bytes (Some row) ins = bytes-fit row.meaning ins
 
-pub table-lawful : (table : List Row) → AreBounded → is_lawful_table table ≡ true → IsLawful (table_isa Arm64 table)
+pub table-lawful : (name : ArchName) (table : List Row) → AreBounded → is_lawful_table name table ≡ true → IsLawful (table_isa name table)
 unfolding table_isa
-table-lawful table known e = record {
+table-lawful name table known e = record {
   known = λ o v. let form = known-form (slice_get table o.form) o v in slice_get_within table o.form form.0 form.1;
   sizes = λ form. sizes-small (slice_get table form);
-  offset_low = λ o v. (offset-near table o e (slice_get table o.form) refl v).low;
-  offset_high = λ o v. (offset-near table o e (slice_get table o.form) refl v).high;
-  writable = λ form. lacks_zero-at table form e (slice_get table form) refl;
-  base = λ form access. has-base table form e (slice_get table form) refl access;
+  offset_low = λ o v. (offset-near name table o e (slice_get table o.form) refl v).low;
+  offset_high = λ o v. (offset-near name table o e (slice_get table o.form) refl v).high;
+  writable = λ form. lacks_zero-at name table form e (slice_get table form) refl;
+  base = λ form access. has-base name table form e (slice_get table form) refl access;
   value_count = λ i ins loaded v same some.
       let form = known-form (slice_get table i.form) (op_of i) v.op in
-      count-values table form.0 i ins loaded known (lawful-at table i.form form.0 e form.1) form.1 v;
+      count-values name table form.0 i ins loaded known (lawful-at name table i.form form.0 e form.1) form.1 v;
   values_fit = λ i ins loaded v same some fits bytes.
       let form = known-form (slice_get table i.form) (op_of i) v.op in
-      fit-values table form.0 i ins loaded known (lawful-at table i.form form.0 e form.1) form.1 v;
+      fit-values name table form.0 i ins loaded known (lawful-at name table i.form form.0 e form.1) form.1 v;
   stored_count = λ i ins v store same. row-stores (slice_get table i.form) ins store;
   stored_fit = λ i ins v store same. row-bytes (slice_get table i.form) ins;
 }
@@ -254,6 +264,8 @@ meaning-stored : (m : Meaning) (ins : List ℕ) →
 unfolding transfer_bytes
 meaning-stored (meaning.Scalar op size) ins = refl
 meaning-stored (meaning.Vector op) ins = refl
+meaning-stored (meaning.Word op) ins = refl
+meaning-stored (meaning.Copy b) ins = refl
 meaning-stored (meaning.Memory t) ins =
     ap (λ b. cond (cond b t.store false) (transfer_bytes t ins) []) (some-size t.pair t.width)
     ∙ twice t.store (stored_bytes t.pair (width_bytes t.width) ins)

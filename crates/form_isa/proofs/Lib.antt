@@ -19,3 +19,4 @@ pub mod Dealt
 pub mod TiedBack
 pub mod Renamed
 pub mod TableLanguage
+pub mod CounterSteps

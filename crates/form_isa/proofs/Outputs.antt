@@ -6,7 +6,7 @@ use Rattle.std.proofs.lemmas.Bool.{and_parts, lt-ltb, false≢true}
 use Rattle.sl_model.specs.declared.register.Bank.{Bank}
 use Rattle.sl_model.specs.declared.register.Reg.{Reg}
 use Rattle.sl_model.specs.declared.register.RegSet.{RegSet}
-use Rattle.sl_model.specs.declared.instruction.ArchName.TheVariants.{Arm64}
+use Rattle.sl_model.specs.declared.instruction.ArchName.{ArchName}
 use Rattle.sl_model.specs.Machine.{limit_of}
 use Rattle.sl_model.specs.RegSets.{set_has, set_count}
 use Rattle.sl_model.specs.Lawful.{suits_set, zero_register}
@@ -89,19 +89,19 @@ outputs-lack_zero (suc n) (b ∷ wanted) (set ∷ sets) e =
     lacks_both set (padded_classes n sets) (only-lacks_zero b set parts.0) (outputs-lack_zero n wanted sets parts.1)
 
 -- Values fit registers of these banks, one each.
-abbrev pub FitBanks : List Bank → List ℕ → Type 0
-FitBanks [] values = Unit {0}
-FitBanks (b ∷ wanted) [] = Unit {0}
-FitBanks (b ∷ wanted) (value ∷ values) = (value < limit_of Arm64 b) × FitBanks wanted values
+abbrev pub FitBanks : ArchName → List Bank → List ℕ → Type 0
+FitBanks name [] values = Unit {0}
+FitBanks name (b ∷ wanted) [] = Unit {0}
+FitBanks name (b ∷ wanted) (value ∷ values) = (value < limit_of name b) × FitBanks name wanted values
 
-pub fitting : (regs : List Reg) (values : List ℕ) → FitBanks (banks regs) values →
-    list_all (λ x. nat_lt x.1 (limit_of Arm64 x.0.bank)) (zip regs values) ≡ true
-fitting [] values f = refl
-fitting (r ∷ regs) [] f = refl
-fitting (r ∷ regs) (value ∷ values) f =
-    ap (λ b. b && list_all (λ x. nat_lt x.1 (limit_of Arm64 x.0.bank)) (zip regs values))
-    (lt-ltb value (limit_of Arm64 r.bank) f.0)
-    ∙ fitting regs values f.1
+pub fitting : (name : ArchName) (regs : List Reg) (values : List ℕ) → FitBanks name (banks regs) values →
+    list_all (λ x. nat_lt x.1 (limit_of name x.0.bank)) (zip regs values) ≡ true
+fitting name [] values f = refl
+fitting name (r ∷ regs) [] f = refl
+fitting name (r ∷ regs) (value ∷ values) f =
+    ap (λ b. b && list_all (λ x. nat_lt x.1 (limit_of name x.0.bank)) (zip regs values))
+    (lt-ltb value (limit_of name r.bank) f.0)
+    ∙ fitting name regs values f.1
 
 -- There are as many classes as banks.
 pub only-count : (wanted : List Bank) (sets : List RegSet) → are_only_of wanted sets ≡ true → length wanted ≡ length sets

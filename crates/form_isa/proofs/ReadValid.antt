@@ -91,10 +91,10 @@ pub record HasRegs (row : Row) (helds : List Held) (i : Instr) : Type 0 where
   pub ins : i.ins ≡ padded 4 (read_regs row helds)
   pub outs : i.outs ≡ padded 3 (written_regs row helds)
 
-pub has-regs : (form : ℕ) (row : Row) (helds : List Held) → IsLawfulRow row → IsOwn row helds →
+pub has-regs : (name : ArchName) (form : ℕ) (row : Row) (helds : List Held) → IsLawfulRow name row → IsOwn row helds →
     HasRegs row helds (instr_of form row helds)
 unfolding instr_of
-has-regs form row helds lawful own =
+has-regs name form row helds lawful own =
     let read : AreOf (read_regs row helds) (input_classes row) = read-of row helds own.shaped own.registers in
     let written : AreOf (written_regs row helds) (output_classes row) = written-of row helds own.shaped own.registers in
     let as_many : length (read_regs row helds) ≡ length (input_classes row) =
@@ -183,19 +183,19 @@ differ-outputs row helds i own has =
     ap all_differ (written-back row helds i has) ∙ repeats-differ 3 (written_regs row helds) has.few_written apart
 
 -- a base that is written back is alone
-apart-base : (row : Row) (helds : List Held) (i : Instr) → IsLawfulRow row → IsOwn row helds → HasRegs row helds i →
+apart-base : (name : ArchName) (row : Row) (helds : List Held) (i : Instr) → IsLawfulRow name row → IsOwn row helds → HasRegs row helds i →
     is_base_apart (info_of row) i ≡ true
-apart-base row helds i lawful own has =
+apart-base name row helds i lawful own has =
     ap (is_base_alone same_reg (info_of row)) (read-back row helds i has)
-    ∙ (base-apart row.meaning row helds lawful.suits lawful.few own.shaped own.registers ∙ ap not own.apart)
+    ∙ (base-apart name row.meaning row helds lawful.suits lawful.few own.shaped own.registers ∙ ap not own.apart)
 
 -- The instruction of a row whose operands hold these is one of the set.
 pub made-valid : (name : ArchName) (table : List Row) (form : ℕ) (row : Row) (helds : List Held) →
-    slice_get table form ≡ Some row → is_lawful_row row ≡ true →
+    slice_get table form ≡ Some row → is_lawful_row name row ≡ true →
     IsOwn row helds → IsValid (table_isa name table) (instr_of form row helds)
 made-valid name table form row helds at lawful own =
     let i : Instr = instr_of form row helds in
-    let has : HasRegs row helds i = has-regs form row helds (lawful-row row lawful) own in
+    let has : HasRegs row helds i = has-regs name form row helds (lawful-row name row lawful) own in
     let info : (table_isa name table).info i.form ≡ info_of row = info-is name table form row helds at in
     let read = read-classes row helds i has in
     let written = written-classes row helds i has in
@@ -213,7 +213,7 @@ made-valid name table form row helds at lawful own =
           (tied-outputs row helds i own has);
       base_apart =
           subst (λ (f : FormInfo). is_base_apart f i ≡ true) (sym info)
-          (apart-base row helds i (lawful-row row lawful) own has);
+          (apart-base name row helds i (lawful-row name row lawful) own has);
     }
 
 made-plain : (form : ℕ) (row : Row) (helds : List Held) →
@@ -227,16 +227,16 @@ abbrev IsMade : (name : ArchName) (table : List Row) → Instr → Type 0
 IsMade name table i = IsValid (table_isa name table) i × (i.tag ≡ None) × (i.early ≡ false) × (i.late ≡ false) × (i.line ≡ 0)
 
 made-is : (name : ArchName) (table : List Row) (form : ℕ) (row : Row) (helds : List Held) →
-    slice_get table form ≡ Some row → is_lawful_row row ≡ true →
+    slice_get table form ≡ Some row → is_lawful_row name row ≡ true →
     IsOwn row helds → IsMade name table (instr_of form row helds)
 made-is name table form row helds at lawful own =
     let plain = made-plain form row helds in
     (made-valid name table form row helds at lawful own, plain.0, plain.1, plain.2, plain.3)
 
 -- Where a form of the table keeps what its operands hold, and was judged to be an instruction, its operands are its own.
-pub own-is : (table : List Row) (pairs : List Pair) (i : Instr) (r : IsReadBy table pairs i) → all_kept table table ≡ true → is_lawful_row r.kept.row ≡ true →
+pub own-is : (name : ArchName) (table : List Row) (pairs : List Pair) (i : Instr) (r : IsReadBy table pairs i) → all_kept table table ≡ true → is_lawful_row name r.kept.row ≡ true →
     IsOwn r.kept.row r.fit.helds
-own-is table pairs i r kept lawful =
+own-is name table pairs i r kept lawful =
     let judges : IsJudged r.fit.form r.kept.row r.fit.helds i = judged-is r.fit.form r.kept.row r.fit.helds i r.judges in
     let shaped : Shaped (row_operands r.kept.row) r.fit.helds =
     filled_shaped (row_operands r.kept.row) r.fit.helds r.kept.filled in
@@ -247,20 +247,20 @@ own-is table pairs i r kept lawful =
       registers = judges.registers;
       distinct = judges.distinct;
       apart = judges.apart;
-      alone = kept-alone table r.fit r.kept.row kept r.kept.at r.kept.stays (lawful-row r.kept.row lawful).number shaped;
+      alone = kept-alone table r.fit r.kept.row kept r.kept.at r.kept.stays (lawful-row name r.kept.row lawful).number shaped;
     }
 
 pub read-valid : (name : ArchName) (table : List Row) (pairs : List Pair) (words : List Lexeme) (i : Instr) → is_table table ≡ true →
-    is_lawful_table table ≡ true →
+    is_lawful_table name table ≡ true →
     reads table pairs words ≡ Ok i → IsRead (table_isa name table) pairs i
 read-valid name table pairs words i tests lawful e =
     let one = then_parts (tables.all_differ table) (cond (all_kept table table) (all_rows table) false) tests in
     let two = then_parts (all_kept table table) (all_rows table) one.1 in
     let r : IsReadBy table pairs i = read_kept table pairs words i tests e in
-    let row_lawful : is_lawful_row r.kept.row ≡ true = lawful-at table r.fit.form r.kept.row lawful r.kept.at in
+    let row_lawful : is_lawful_row name r.kept.row ≡ true = lawful-at name table r.fit.form r.kept.row lawful r.kept.at in
     let made : IsMade name table i =
     subst (λ (j : Instr). IsMade name table j) (judged-is r.fit.form r.kept.row r.fit.helds i r.judges).made
-    (made-is name table r.fit.form r.kept.row r.fit.helds r.kept.at row_lawful (own-is table pairs i r two.0 row_lawful)) in
+    (made-is name table r.fit.form r.kept.row r.fit.helds r.kept.at row_lawful (own-is name table pairs i r two.0 row_lawful)) in
     record {
       valid = made.0;
       plain = (made.1, made.2, made.3, made.4);

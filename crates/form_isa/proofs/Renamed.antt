@@ -9,7 +9,7 @@ use Rattle.std.proofs.lemmas.Option.{get_or_from_slice_get}
 use Rattle.sl_model.specs.declared.register.Bank.{Bank}
 use Rattle.sl_model.specs.declared.register.Bank.TheVariants as bank
 use Rattle.sl_model.specs.declared.register.Reg.{Reg}
-use Rattle.sl_model.specs.declared.instruction.ArchName.TheVariants.{Arm64}
+use Rattle.sl_model.specs.declared.instruction.ArchName.{ArchName}
 use Rattle.sl_model.specs.declared.instruction.FormInfo.{FormInfo}
 use Rattle.sl_model.specs.declared.instruction.Instr.{Instr}
 use Rattle.sl_model.specs.Register.{same_reg}
@@ -268,14 +268,14 @@ made-outs form row helds = results-padded row helds
 
 -- ---- the law
 
-info-at : (table : List Row) (form : ℕ) (row : Row) → slice_get table form ≡ Some row → (table_isa Arm64 table).info form ≡ info_of row
+info-at : (name : ArchName) (table : List Row) (form : ℕ) (row : Row) → slice_get table form ≡ Some row → (table_isa name table).info form ≡ info_of row
 unfolding table_isa
-info-at table form row at = ap info_at at
+info-at name table form row at = ap info_at at
 
 -- What is spelled by a table is spelled in other registers too.
-pub read-renamed : (table : List Row) → is_readable table ≡ true → is_lawful_table table ≡ true → (pairs : List Pair) (words : List Lexeme) (i j : Instr) →
-    reads table pairs words ≡ Ok (unmarked i) → IsRenaming (table_isa Arm64 table) i j → HasWords table [] (unmarked j)
-read-renamed table tests lawful pairs words i j e renaming =
+pub read-renamed : (name : ArchName) (table : List Row) → is_readable table ≡ true → is_lawful_table name table ≡ true → (pairs : List Pair) (words : List Lexeme) (i j : Instr) →
+    reads table pairs words ≡ Ok (unmarked i) → IsRenaming (table_isa name table) i j → HasWords table [] (unmarked j)
+read-renamed name table tests lawful pairs words i j e renaming =
     let whole : is_table table ≡ true = (then_parts (is_table table) (all_led table) tests).0 in
     let one = then_parts (tables.all_differ table) (cond (all_kept table table) (all_rows table) false) whole in
     let kept : all_kept table table ≡ true = (then_parts (all_kept table table) (all_rows table) one.1).0 in
@@ -283,21 +283,21 @@ read-renamed table tests lawful pairs words i j e renaming =
     let row : Row = r.kept.row in
     let form : ℕ = r.fit.form in
     let olds : List Held = r.fit.helds in
-    let fair : is_lawful_row row ≡ true = lawful-at table form row lawful r.kept.at in
-    let fine : IsLawfulRow row = lawful-row row fair in
-    let has : HasRegs row olds (instr_of form row olds) = has-regs form row olds fine (own-is table pairs (unmarked i) r kept fair) in
+    let fair : is_lawful_row name row ≡ true = lawful-at name table form row lawful r.kept.at in
+    let fine : IsLawfulRow name row = lawful-row name row fair in
+    let has : HasRegs row olds (instr_of form row olds) = has-regs name form row olds fine (own-is name table pairs (unmarked i) r kept fair) in
     let made : instr_of form row olds ≡ unmarked i = (judged-is form row olds (unmarked i) r.judges).made in
     let same_form : j.form ≡ form = ap (λ (k : Instr). k.form) (sym renaming.same) ∙ (ap (λ (k : Instr). k.form) (sym made) ∙ form_of form row olds) in
     let same_imms : j.imms ≡ i.imms = ap (λ (k : Instr). k.imms) (sym renaming.same) in
-    let v : IsValid (table_isa Arm64 table) j = renaming.valid in
-    let info : (table_isa Arm64 table).info j.form ≡ info_of row = info-at table j.form row (ap (slice_get table) same_form ∙ r.kept.at) in
-    let of : OfRow row j = of-row row olds (instr_of form row olds) j ((table_isa Arm64 table).info j.form) has info renaming.concrete.operands_concrete renaming.concrete.outputs_concrete
+    let v : IsValid (table_isa name table) j = renaming.valid in
+    let info : (table_isa name table).info j.form ≡ info_of row = info-at name table j.form row (ap (slice_get table) same_form ∙ r.kept.at) in
+    let of : OfRow row j = of-row row olds (instr_of form row olds) j ((table_isa name table).info j.form) has info renaming.concrete.operands_concrete renaming.concrete.outputs_concrete
     v.operand_count v.output_count v.operand_classes v.output_classes v.tied v.ins_shape v.outs_shape in
     let news : List Held = helds_in j (row_operands row) 0 0 0 in
     let again : Redealt row j news = redealt row j of in
     let numbers : SameNumbers olds news = subst (λ hs. SameNumbers hs news) (held_again table pairs (unmarked i) r whole) (same-numbers (unmarked i) j (row_operands row) 0 0 0 0 0 same_imms) in
     let apart : not (shares_base row news) ≡ true =
-    sym (base-apart row.meaning row news fine.suits fine.few again.shaped again.suit)
+    sym (base-apart name row.meaning row news fine.suits fine.few again.shaped again.suit)
     ∙ (ap (is_base_alone same_reg (info_of row)) again.reads ∙ (ap (λ (f : FormInfo). is_base_apart f j) (sym info) ∙ v.base_apart)) in
     let renamed : IsRenamed row olds news = record {
       numbers = numbers;

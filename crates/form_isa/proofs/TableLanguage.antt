@@ -3,7 +3,7 @@ use Rattle.std.proofs.Common.{◌≡◌, refl, ap, ℕ, ◌+◌, Bool, true, fal
 use Rattle.std.specs.Prelude.{slice_get, Option, None, Some, if◌then◌else◌}
 use Rattle.sl_model.specs.declared.register.Reg.{Reg}
 use Rattle.sl_model.specs.declared.text.Comments.{Comments}
-use Rattle.sl_model.specs.declared.instruction.ArchName.TheVariants.{Arm64}
+use Rattle.sl_model.specs.declared.instruction.ArchName.{ArchName}
 use Rattle.sl_model.specs.declared.instruction.Instr.{Instr}
 use Rattle.sl_model.specs.Machine.{can_count}
 use Rattle.sl_isa.specs.declared.arch.CounterOp.{CounterOp}
@@ -11,7 +11,7 @@ use Rattle.sl_isa.specs.Steps.{IsStep, Steps}
 use Rattle.sl_isa.specs.Symbols.{Pair}
 use Rattle.sl_isa.specs.Language.{IsLanguage, IsSpelledAt, unmarked, IsSpelled}
 use Rattle.scalar_ops.specs.Scalar.{bits_of}
-use Rattle.scalar_ops.proofs.ForCallers.{value-count, result-fits_register, second_value-fits}
+use Rattle.scalar_ops.proofs.ForCallers.{value-count, result-fits_bits, second_value-fits, word-count, word-fits, second_word-fits}
 use Rattle.lane_ops.proofs.ForCallers.{value_fits, moved_out_fits}
 use Rattle.form_table.specs.declared.rows.Row.{Row}
 use Rattle.form_table.specs.declared.rows.Operand.{Operand}
@@ -30,10 +30,13 @@ use Rattle.form_isa.proofs.Renamed.{read-renamed}
 bounded : AreBounded
 bounded = record {
   count = λ op size imms ins. value-count op (bits_of size) imms ins;
-  result = result-fits_register;
+  result = result-fits_bits;
   flags = λ op size imms ins. second_value-fits op (bits_of size) imms ins;
   whole = value_fits;
   moved_out = moved_out_fits;
+  words = word-count;
+  word = word-fits;
+  second_word = second_word-fits;
 }
 
 first_of : (a b : Bool) → (if a then b else false) ≡ true → a ≡ true
@@ -58,10 +61,10 @@ unfolding printed
 printed-unmarked table pairs i = row-unmarked pairs (slice_get table i.form) i
 
 -- what a text gives by a table it gives by its language
-given-spelled : (table : List Row) (step_of : CounterOp → Reg → ℕ → Instr) (pairs : List Pair) (comments : Comments) (text : List ℕ) (place : ℕ) (behind : List ℕ) (i : Instr) →
-    GivesInstr table pairs comments text place behind i → IsSpelledAt (table_language Arm64 table step_of) pairs comments text place behind i
+given-spelled : (name : ArchName) (table : List Row) (step_of : CounterOp → Reg → ℕ → Instr) (pairs : List Pair) (comments : Comments) (text : List ℕ) (place : ℕ) (behind : List ℕ) (i : Instr) →
+    GivesInstr table pairs comments text place behind i → IsSpelledAt (table_language name table step_of) pairs comments text place behind i
 unfolding table_language
-given-spelled table step_of pairs comments text place behind i given = record {
+given-spelled name table step_of pairs comments text place behind i given = record {
   words = given.words;
   tokens = given.tokens;
   plain = given.plain;
@@ -70,27 +73,27 @@ given-spelled table step_of pairs comments text place behind i given = record {
 }
 
 -- words that a table has spell an instruction of its language
-words-spelled : (table : List Row) (step_of : CounterOp → Reg → ℕ → Instr) (pairs : List Pair) (i : Instr) → HasWords table pairs (unmarked i) →
-    IsSpelled (table_language Arm64 table step_of) pairs i
+words-spelled : (name : ArchName) (table : List Row) (step_of : CounterOp → Reg → ℕ → Instr) (pairs : List Pair) (i : Instr) → HasWords table pairs (unmarked i) →
+    IsSpelled (table_language name table step_of) pairs i
 unfolding table_language
-words-spelled table step_of pairs i has = record { words = has.words; known = has.known; read = has.read }
+words-spelled name table step_of pairs i has = record { words = has.words; known = has.known; read = has.read }
 
-pub table-language : (table : List Row) (step_of : CounterOp → Reg → ℕ → Instr) → is_readable table ≡ true →
-    is_lawful_table table ≡ true →
-    ((op : CounterOp) (counter : Reg) (line : ℕ) → can_count Arm64 counter ≡ true → IsStep op →
-    Steps (table_isa Arm64 table) op counter line (step_of op counter line)) → IsLanguage (table_language Arm64 table step_of)
+pub table-language : (name : ArchName) (table : List Row) (step_of : CounterOp → Reg → ℕ → Instr) → is_readable table ≡ true →
+    is_lawful_table name table ≡ true →
+    ((op : CounterOp) (counter : Reg) (line : ℕ) → can_count name counter ≡ true → IsStep op →
+    Steps (table_isa name table) op counter line (step_of op counter line)) → IsLanguage (table_language name table step_of)
 unfolding table_language table_isa
-table-language table step_of readable lawful steps =
+table-language name table step_of readable lawful steps =
     let whole : is_table table ≡ true = first_of (is_table table) (all_led table) readable in
     record {
-      set = table-lawful table bounded lawful;
-      read = λ pairs words i known e. read-valid Arm64 table pairs words i whole lawful e;
+      set = table-lawful name table bounded lawful;
+      read = λ pairs words i known e. read-valid name table pairs words i whole lawful e;
       few = read_few table;
       more = reads_further table;
-      renamed = λ pairs i j spelled renaming. words-spelled table step_of [] j (read-renamed table readable lawful pairs spelled.words i j spelled.read renaming);
+      renamed = λ pairs i j spelled renaming. words-spelled name table step_of [] j (read-renamed name table readable lawful pairs spelled.words i j spelled.read renaming);
       nothing = none_of_no_words table;
       again = λ pairs words i known e comments place behind is.
-          given-spelled table step_of pairs comments (printed table pairs i) place behind i (spelled_at table readable pairs words i e comments place behind is);
+          given-spelled name table step_of pairs comments (printed table pairs i) place behind i (spelled_at table readable pairs words i e comments place behind is);
       one_line = λ pairs words i known e. one_line table readable pairs words i e;
       plain_printed = plain_printed table;
       unmarked_printed = printed-unmarked table;

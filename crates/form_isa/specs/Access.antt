@@ -2,13 +2,14 @@
 -- the base. Source: DDI 0487, A64 loads and stores; DDI 0403 for those that Armv7-M has too; both
 -- in little-endian order: the bytes of a register are its lanes of 8 bits, the lowest at the lowest
 -- address. An operand that an instruction doesn't have reads 0.
-use Rattle.std.specs.Prelude.{ℕ, ℤ, pos, Bool, true, false, List, [], ◌∷◌, ◌++◌, ◌*◌, take, drop, slice_index, slice_index_or, if◌then◌else◌}
+use Rattle.std.specs.Prelude.{ℕ, ℤ, pos, Bool, true, false, List, [], ◌∷◌, ◌++◌, ◌*◌, ◌%◌, ◌^◌, nat_lt, take, drop, slice_index, slice_index_or, if◌then◌else◌}
 use Rattle.sl_model.specs.Isa.{address_at}
 use Rattle.sl_isa.specs.declared.meaning.Width.{Width}
 use Rattle.sl_isa.specs.declared.meaning.Width.TheVariants.{Byte, Half, Word, Double, Quad}
 use Rattle.sl_isa.specs.declared.meaning.Addressing.{Addressing}
 use Rattle.sl_isa.specs.declared.meaning.Addressing.TheVariants.{Kept, Before, After}
 use Rattle.sl_isa.specs.declared.meaning.Transfer.{Transfer}
+use Rattle.bit_ops.specs.Bits.{extended}
 use Rattle.lane_ops.specs.Lanes.{lanes_of, joined}
 
 -- the bytes of a register
@@ -53,11 +54,20 @@ abbrev pub new_base : ℕ → Addressing → List ℤ → ℕ → List ℕ
 new_base space addressing imms base =
     if writes_back addressing then address_at space base (first_number imms) ∷ [] else []
 
+-- a number of so many bytes with copies of its sign above it, up to 32 bits
+abbrev pub filled : ℕ → ℕ → ℕ
+filled bytes x = if nat_lt bytes 4 then extended (8 * bytes) x % 2 ^ 32 else x
+
+-- what a register gets of its bytes, so many: copies of the sign above them, or zeros
+abbrev pub loaded_value : Bool → ℕ → List ℕ → ℕ
+loaded_value false bytes loaded = joined 8 (take bytes loaded)
+loaded_value true bytes loaded = filled bytes (joined 8 (take bytes loaded))
+
 -- what registers of so many bytes get of bytes: one register, or a pair
-unfoldable pub loaded_values : Bool → ℕ → List ℕ → List ℕ
-loaded_values false bytes loaded = joined 8 (take bytes loaded) ∷ []
-loaded_values true bytes loaded =
-    joined 8 (take bytes loaded) ∷ joined 8 (take bytes (drop bytes loaded)) ∷ []
+unfoldable pub loaded_values : Bool → Bool → ℕ → List ℕ → List ℕ
+loaded_values signed false bytes loaded = loaded_value signed bytes loaded ∷ []
+loaded_values signed true bytes loaded =
+    loaded_value signed bytes loaded ∷ loaded_value signed bytes (drop bytes loaded) ∷ []
 
 -- so many low bytes of the first operand, or of the first two
 unfoldable pub stored_bytes : Bool → ℕ → List ℕ → List ℕ
@@ -68,7 +78,7 @@ stored_bytes true bytes ins =
 -- the values of the outputs
 unfoldable pub transfer_values : ℕ → Transfer → List ℤ → List ℕ → List ℕ → List ℕ
 transfer_values space t imms ins loaded =
-    (if t.store then [] else loaded_values t.pair (width_bytes t.width) loaded)
+    (if t.store then [] else loaded_values t.signed t.pair (width_bytes t.width) loaded)
     ++ new_base space t.addressing imms (slice_index ins (base_place t))
 
 -- the bytes that are stored

@@ -85,12 +85,16 @@ back_place (set ∷ sets) written = Some written
 abbrev pub size_of : Meaning → ℕ
 size_of (meaning.Scalar op size) = 0
 size_of (meaning.Vector op) = 0
+size_of (meaning.Word op) = 0
+size_of (meaning.Copy b) = 0
 size_of (meaning.Memory transfer) = transfer_size transfer
 
 -- Does a meaning store?
 abbrev pub stores : Meaning → Bool
 stores (meaning.Scalar op size) = false
 stores (meaning.Vector op) = false
+stores (meaning.Word op) = false
+stores (meaning.Copy b) = false
 stores (meaning.Memory transfer) = transfer.store
 
 -- ties of so many outputs, where the last ones have none

@@ -5,7 +5,7 @@ use Rattle.std.specs.Str.{bytes_eq}
 use Rattle.sl_model.specs.declared.register.Bank.{Bank}
 use Rattle.sl_model.specs.declared.register.Bank.TheVariants as bank
 use Rattle.sl_model.specs.declared.register.RegSet.{RegSet}
-use Rattle.sl_model.specs.declared.instruction.ArchName.TheVariants.{Arm64}
+use Rattle.sl_model.specs.declared.instruction.ArchName.{ArchName}
 use Rattle.sl_model.specs.Machine.{limit_of}
 use Rattle.sl_model.specs.RegSets.{set_count}
 use Rattle.sl_model.specs.Lawful.{bank_bits}
@@ -13,10 +13,13 @@ use Rattle.sl_isa.specs.declared.meaning.Scalar.{Scalar}
 use Rattle.sl_isa.specs.declared.meaning.Scalar.TheVariants as scalar
 use Rattle.sl_isa.specs.declared.meaning.Vector.{Vector}
 use Rattle.sl_isa.specs.declared.meaning.Vector.TheVariants as vector
+use Rattle.sl_isa.specs.declared.meaning.WordOp.{WordOp}
+use Rattle.sl_isa.specs.declared.meaning.WordOp.TheVariants as word
 use Rattle.sl_isa.specs.declared.meaning.Addressing.{Addressing}
 use Rattle.sl_isa.specs.declared.meaning.Transfer.{Transfer}
 use Rattle.sl_isa.specs.declared.meaning.Meaning.{Meaning}
 use Rattle.sl_isa.specs.declared.meaning.Meaning.TheVariants as meaning
+use Rattle.scalar_ops.specs.Scalar.{result_bits}
 use Rattle.form_table.specs.Rows.{row_operands}
 use Rattle.form_table.specs.Printed.{has_number}
 use Rattle.form_table.specs.Tables.{spell_classes}
@@ -40,6 +43,11 @@ abbrev pub vector_banks : Vector → List Bank
 vector_banks (vector.MoveOut lane) = bank.General ∷ []
 vector_banks _ = bank.Vector ∷ []
 
+-- the banks of the outputs of a meaning on words
+abbrev pub word_banks : WordOp → List Bank
+word_banks (word.MultiplyPair signed adds) = bank.General ∷ bank.General ∷ []
+word_banks _ = bank.General ∷ []
+
 -- the banks of what an access loads
 abbrev pub loaded_banks : Bool → Bank → List Bank
 loaded_banks false b = b ∷ []
@@ -58,6 +66,8 @@ transfer_banks t =
 abbrev pub banks_of : Meaning → List Bank
 banks_of (meaning.Scalar op size) = scalar_banks op
 banks_of (meaning.Vector op) = vector_banks op
+banks_of (meaning.Word op) = word_banks op
+banks_of (meaning.Copy b) = b ∷ []
 banks_of (meaning.Memory t) = transfer_banks t
 
 -- Are all registers of a set of a bank, and none of them the zero register?
@@ -95,9 +105,20 @@ has_its_number (alias.Repeat form) operands = true
 has_its_number (alias.ZeroAs form place) operands =
     if nat_le (length (ranges operands)) 3 then is_last_number place operands else false
 
--- Do registers of a bank take numbers of so many bytes?
-abbrev pub has_room : Bank → ℕ → Bool
-has_room b bytes = nat_le (2 ^ (8 * bytes)) (limit_of Arm64 b)
+-- Do registers of a bank take all numbers of so many bits?
+abbrev pub has_room : ArchName → Bank → ℕ → Bool
+has_room name b bits = nat_le (2 ^ bits) (limit_of name b)
+
+-- the same of the result of a vector meaning
+abbrev pub has_vector_room : ArchName → Vector → Bool
+has_vector_room name (vector.MoveOut lane) = has_room name bank.General 64
+has_vector_room name _ = has_room name bank.Vector 128
+
+-- how many bits of a register a load fills: copies of a sign reach up to 32
+abbrev pub loaded_bits : Transfer → ℕ
+loaded_bits t =
+    if t.signed then (if nat_lt (width_bytes t.width) 4 then 32 else 8 * width_bytes t.width)
+    else 8 * width_bytes t.width
 
 -- Is the first of the numbers that operands take within 2 ^ 20 of 0, if there is one?
 abbrev pub is_near : List Range → Bool
@@ -129,11 +150,11 @@ back_places t = if writes_back t.addressing then base_place t ∷ [] else []
 
 -- Has a row the base of an access, does it write it back as the access says, and
 -- suit its registers and its offsets?
-abbrev pub suits_transfer : Transfer → Row → Bool
-suits_transfer t row =
+abbrev pub suits_transfer : ArchName → Transfer → Row → Bool
+suits_transfer name t row =
     if has_base t row then
     (if bytes_eq (places_of pick.Back 0 (row_operands row)) (back_places t) then
-    (if has_room t.bank (width_bytes t.width) then is_near (ranges (row_operands row)) else false)
+    (if has_room name t.bank (loaded_bits t) then is_near (ranges (row_operands row)) else false)
     else false)
     else false
 
@@ -141,20 +162,26 @@ suits_transfer t row =
 abbrev pub lacks_base : Row → Bool
 lacks_base row = length (classes pick.Base (row_operands row)) == 0
 
--- Has a row a base exactly where its meaning is an access, and one that suits it?
-abbrev pub suits_meaning : Meaning → Row → Bool
-suits_meaning (meaning.Scalar op size) row = lacks_base row
-suits_meaning (meaning.Vector op) row = lacks_base row
-suits_meaning (meaning.Memory t) row = suits_transfer t row
+-- Has a row a base exactly where its meaning is an access, and one that suits it; and have the
+-- registers of an architecture room for what the meaning gives?
+abbrev pub suits_meaning : ArchName → Meaning → Row → Bool
+suits_meaning name (meaning.Scalar op size) row =
+    if has_room name bank.General (result_bits op size) then lacks_base row else false
+suits_meaning name (meaning.Vector op) row =
+    if has_vector_room name op then lacks_base row else false
+suits_meaning name (meaning.Word op) row =
+    if has_room name bank.General 32 then lacks_base row else false
+suits_meaning name (meaning.Copy b) row = if has_room name b 32 then lacks_base row else false
+suits_meaning name (meaning.Memory t) row = suits_transfer name t row
 
--- Is a row lawful: it has at most four inputs, writes what its meaning gives, has a base
--- where that is an access, tells its own instructions by their numbers, and spells the registers
--- of its classes?
-abbrev pub is_lawful_row : Row → Bool
-is_lawful_row row =
+-- Is a row lawful in an architecture: it has at most four inputs, writes what its meaning gives,
+-- has a base where that is an access, tells its own instructions by their numbers, and spells the
+-- registers of its classes?
+abbrev pub is_lawful_row : ArchName → Row → Bool
+is_lawful_row name row =
     if nat_le (length (input_classes row)) 4 then
     (if are_only_of (banks_of row.meaning) (output_classes row) then
-    (if suits_meaning row.meaning row then
+    (if suits_meaning name row.meaning row then
     (if has_its_number row.alias (row_operands row)
     then spell_classes (row_operands row)
     else false)
@@ -163,6 +190,7 @@ is_lawful_row row =
     else false
 
 -- Are all rows of a table lawful?
-unfoldable pub is_lawful_table : List Row → Bool
-is_lawful_table [] = true
-is_lawful_table (row ∷ rows) = if is_lawful_row row then is_lawful_table rows else false
+unfoldable pub is_lawful_table : ArchName → List Row → Bool
+is_lawful_table name [] = true
+is_lawful_table name (row ∷ rows) =
+    if is_lawful_row name row then is_lawful_table name rows else false

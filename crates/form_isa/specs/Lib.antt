@@ -1,4 +1,5 @@
 pub mod Access
 pub mod Info
 pub mod TableIsa
+pub mod CounterSteps
 pub mod LawfulTable

@@ -11,7 +11,8 @@ use Rattle.sl_model.specs.Exec.{base_value, has_access}
 use Rattle.sl_model.specs.Machine.{space_of}
 use Rattle.sl_isa.specs.declared.meaning.Meaning.{Meaning}
 use Rattle.sl_isa.specs.declared.meaning.Meaning.TheVariants as meaning
-use Rattle.scalar_ops.specs.Scalar.{bits_of, scalar_values}
+use Rattle.scalar_ops.specs.Scalar.{bits_of, operand, scalar_values}
+use Rattle.scalar_ops.specs.Words.{word_values}
 use Rattle.lane_ops.specs.Vector.{vector_value}
 use Rattle.form_table.specs.Rows.{row_operands}
 use Rattle.form_table.specs.Symbols.{pairs_in}
@@ -70,6 +71,8 @@ abbrev pub meaning_values : ArchName → Meaning → List ℤ → List ℕ → L
 meaning_values name (meaning.Scalar op size) imms ins loaded =
     scalar_values op (bits_of size) imms ins
 meaning_values name (meaning.Vector op) imms ins loaded = vector_value op imms ins ∷ []
+meaning_values name (meaning.Word op) imms ins loaded = word_values op imms ins
+meaning_values name (meaning.Copy b) imms ins loaded = operand 32 ins 0 ∷ []
 meaning_values name (meaning.Memory transfer) imms ins loaded =
     transfer_values (space_of name) transfer imms ins loaded
 
@@ -77,12 +80,16 @@ meaning_values name (meaning.Memory transfer) imms ins loaded =
 abbrev pub meaning_bytes : Meaning → List ℕ → List ℕ
 meaning_bytes (meaning.Scalar op size) ins = []
 meaning_bytes (meaning.Vector op) ins = []
+meaning_bytes (meaning.Word op) ins = []
+meaning_bytes (meaning.Copy b) ins = []
 meaning_bytes (meaning.Memory transfer) ins = transfer_bytes transfer ins
 
 -- the offset of an access
 abbrev pub meaning_offset : Meaning → List ℤ → ℤ
 meaning_offset (meaning.Scalar op size) imms = pos 0
 meaning_offset (meaning.Vector op) imms = pos 0
+meaning_offset (meaning.Word op) imms = pos 0
+meaning_offset (meaning.Copy b) imms = pos 0
 meaning_offset (meaning.Memory transfer) imms = offset_by transfer.addressing imms
 
 -- the values of the outputs by a row, if there is one

@@ -7,13 +7,14 @@ ghost use Rattle.sl_isa.specs.Arch.{padded_values};
 ghost use Rattle.lane_ops.specs.Lanes.{lanes_of, joined};
 ghost use Rattle.form_isa.specs.Access as spec;
 
-use bit_ops::operand;
+use bit_ops::{extended, low_bits, operand};
 use sl_isa::ArchName;
 use sl_isa::meaning::{Addressing, Transfer, Width};
 
 // The bytes of a register.
 fn width_bytes(width: Width) -> u8
     ensures value { result ≡ spec.width_bytes width }
+    ensures some { 1 ≤ result }
     ensures few { result ≤ 16 }
 {
     match width {
@@ -148,6 +149,23 @@ fn number_of(count: u8, bytes: &[u8]) -> u128
     with_byte(*first, number_of(count - 1, rest))
 }
 
+// What a register gets of the first bytes, so many: copies of the sign above them up to 32 bits,
+// or zeros.
+fn loaded_value(signed: bool, count: u8, loaded: &[u8]) -> u128
+    requires some { 1 ≤ count }
+    requires few { count ≤ 16 }
+    ensures { result ≡ spec.loaded_value signed count loaded.now }
+{
+    let value = number_of(count, loaded);
+    if !signed {
+        return value;
+    }
+    if count < 4 {
+        return low_bits(extended(8 * u32::from(count), value), 32);
+    }
+    value
+}
+
 // The bytes behind so many.
 fn behind(count: u8, bytes: &[u8]) -> &[u8]
     ensures { result.now ≡ drop count bytes.now }
@@ -191,9 +209,9 @@ pub(crate) fn transfer_values(
         return new_base;
     }
     let count = width_bytes(transfer.width);
-    let first = number_of(count, loaded);
+    let first = loaded_value(transfer.signed, count, loaded);
     if transfer.pair {
-        let second = number_of(count, behind(count, loaded));
+        let second = loaded_value(transfer.signed, count, behind(count, loaded));
         return put_before(first, put_before(second, new_base));
     }
     put_before(first, new_base)

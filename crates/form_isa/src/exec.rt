@@ -5,10 +5,10 @@ ghost use Rattle.sl_isa.specs.Arch.{padded_values};
 ghost use Rattle.form_isa.specs.TableIsa.{meaning_values, meaning_bytes, meaning_offset, access_by};
 
 use crate::access::{address_at, offset_by, transfer_bytes, transfer_values};
-use bit_ops::operand;
+use bit_ops::{low_bits, operand};
 use form_table::rows::Row;
 use lane_ops::vector_value;
-use scalar_ops::scalar_values;
+use scalar_ops::{scalar_values, word_values};
 use sl_isa::meaning::Meaning;
 use sl_isa::{Access, ArchName, FormInfo};
 
@@ -22,6 +22,8 @@ pub fn values_of(arch: ArchName, row: &Row, imms: &[i64], ins: &[u128], loaded: 
     match row.meaning {
         Meaning::Scalar { op, size } => scalar_values(op, size, imms, ins),
         Meaning::Vector(op) => [vector_value(op, imms, ins), 0, 0],
+        Meaning::Word(op) => word_values(op, imms, ins),
+        Meaning::Copy(_) => [low_bits(operand(ins, 0), 32), 0, 0],
         Meaning::Memory(transfer) => transfer_values(arch, transfer, imms, ins, loaded),
     }
 }
@@ -33,7 +35,8 @@ pub fn bytes_of(row: &Row, ins: &[u128]) -> [u8; 32]
     ensures { result ≡ padded_values 32 (meaning_bytes row.now.meaning ins.now) }
 {
     match row.meaning {
-        Meaning::Scalar { .. } | Meaning::Vector(_) => [0; 32],
+        Meaning::Scalar { .. } | Meaning::Vector(_) | Meaning::Word(_) | Meaning::Copy(_) =>
+            [0; 32],
         Meaning::Memory(transfer) => transfer_bytes(transfer, ins),
     }
 }
@@ -43,7 +46,7 @@ pub fn offset_of(row: &Row, imms: &[i64]) -> i64
     ensures { result ≡ meaning_offset row.now.meaning imms.now }
 {
     match row.meaning {
-        Meaning::Scalar { .. } | Meaning::Vector(_) => 0,
+        Meaning::Scalar { .. } | Meaning::Vector(_) | Meaning::Word(_) | Meaning::Copy(_) => 0,
         Meaning::Memory(transfer) => offset_by(transfer.addressing, imms),
     }
 }

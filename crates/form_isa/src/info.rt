@@ -192,7 +192,7 @@ fn size_of(meaning: Meaning) -> u8
     ensures { result ≡ spec.size_of meaning }
 {
     match meaning {
-        Meaning::Scalar { .. } | Meaning::Vector(_) => 0,
+        Meaning::Scalar { .. } | Meaning::Vector(_) | Meaning::Word(_) | Meaning::Copy(_) => 0,
         Meaning::Memory(transfer) => transfer_size(transfer),
     }
 }
@@ -202,7 +202,7 @@ fn stores(meaning: Meaning) -> bool
     ensures { result ≡ spec.stores meaning }
 {
     match meaning {
-        Meaning::Scalar { .. } | Meaning::Vector(_) => false,
+        Meaning::Scalar { .. } | Meaning::Vector(_) | Meaning::Word(_) | Meaning::Copy(_) => false,
         Meaning::Memory(transfer) => transfer.store,
     }
 }

@@ -7,11 +7,11 @@ use Rattle.std.proofs.Math.Seq.{take-append_seam}
 use Rattle.std.proofs.lemmas.Bool.Decides.{nat_tests}
 use Rattle.std.proofs.lemmas.Str.{len_utf8_ascii}
 use Rattle.sl_model.specs.declared.text.Comments.{Comments}
-use Rattle.sl_model.specs.declared.text.Comments.TheVariants.{Slash, SlashAt}
+use Rattle.sl_model.specs.declared.text.Comments.TheVariants.{Slash, SlashAt, Taken}
 use Rattle.sl_model.specs.declared.text.TokenKind.{TokenKind}
 use Rattle.sl_model.specs.declared.text.TokenKind.TheVariants.{Word, Number, Mark, Comment}
 use Rattle.sl_model.specs.Text.{is_blank}
-use Rattle.sl_model.specs.Token.{Lexeme, begins_word, is_word_byte, comment_length, begins_line_comment, first_char, first_token, lexeme, tokens_from}
+use Rattle.sl_model.specs.Token.{Lexeme, begins_word, is_word_byte, comment_length, begins_block_comment, begins_line_comment, first_char, first_token, lexeme, tokens_from}
 use Rattle.form_table.specs.Symbols.{is_word_text}
 use Rattle.sl_laws.proofs.Tests.{then_parts}
 use Rattle.sl_laws.proofs.Texts.{begin_word, digit_alphanumeric}
@@ -76,14 +76,17 @@ digit_opens c e = record {
   blank = grind (arith, nat_tests);
 }
 
-no_block : (c : ℕ) (text : List ℕ) → Opens c → starts_with nat_eq (c ∷ text) (codes "/*") ≡ false
-no_block c text o = ap (λ b. b && starts_with nat_eq text (codes "*")) o.slash
+no_block : (comments : Comments) (c : ℕ) (text : List ℕ) → Opens c → begins_block_comment comments (c ∷ text) ≡ false
+no_block Slash c text o = ap (λ b. b && starts_with nat_eq text (codes "*")) o.slash
+no_block SlashAt c text o = ap (λ b. b && starts_with nat_eq text (codes "*")) o.slash
+no_block Taken c text o = refl
 
 no_line : (comments : Comments) (c : ℕ) (text : List ℕ) → Opens c → begins_line_comment comments (c ∷ text) ≡ false
 no_line Slash c text o = ap (λ b. b && starts_with nat_eq text (codes "/")) o.slash
 no_line SlashAt c text o =
     ap (λ b. (b && starts_with nat_eq text (codes "/")) || starts_with nat_eq (c ∷ text) (codes "@")) o.slash
     ∙ ap (λ b. b && true) o.at
+no_line Taken c text o = refl
 
 char_first : (d : ℕ) (text : List ℕ) → slice_index (chars_after zero d text) 0 ≡ d
 char_first d [] = refl
@@ -114,7 +117,7 @@ by_tests block line c text = cond block (Comment, comment_length (drop 2 text) +
 opened : (comments : Comments) (c : ℕ) (text : List ℕ) → Opens c → first_token comments (c ∷ text) ≡ by_char c (c ∷ text)
 unfolding first_token
 opened comments c text o =
-    ap (λ b. by_tests b (begins_line_comment comments (c ∷ text)) (first_char (c ∷ text)) (c ∷ text)) (no_block c text o)
+    ap (λ b. by_tests b (begins_line_comment comments (c ∷ text)) (first_char (c ∷ text)) (c ∷ text)) (no_block comments c text o)
     ∙ (ap (λ b. by_tests false b (first_char (c ∷ text)) (c ∷ text)) (no_line comments c text o)
     ∙ ap (λ d. by_char d (c ∷ text)) (ascii_char c text o.ascii))
 

@@ -4,6 +4,7 @@ ghost use Rattle.std.specs.Fmt.{decimal};
 ghost use Rattle.form_table.specs.Rows.{row_operands, slots_of};
 ghost use Rattle.form_table.specs.Printed as spec;
 ghost use Rattle.form_table.specs.TableRows.{rows_of};
+ghost use Rattle.form_table.specs.declared.rows.Slot.TheVariants as slot;
 ghost use Rattle.sl_isa.specs.SymbolViews.{pairs};
 
 use crate::reader::{Pick, is_picked};
@@ -331,6 +332,28 @@ fn push_operands(
     push_operands(out, instr, Slot::Mark(b','), operands, places, symbols)
 }
 
+/// Adds what is printed behind the mnemonic for an instruction of a row. After `NoMemory` a part of
+/// it may be there.
+pub fn push_behind(
+    out: &mut Vec<u8>,
+    row: &Row,
+    instr: &Instr,
+    symbols: &Symbols,
+) -> Result<(), NoMemory>
+    ensures { OnOk result
+        (out.new.items
+        ≡ out.old.items
+        ++ spec.operands_text (pairs symbols.now) slot.Gap (row_operands row.now)
+        (spec.helds_in instr.now (row_operands row.now) 0 0 0)) }
+{
+    let places = Places {
+        ins: 0,
+        outs: 0,
+        numbers: 0,
+    };
+    push_operands(out, instr, Slot::Gap, &row.operands(), places, symbols)
+}
+
 // Adds what is printed for an instruction of a row.
 #[tactic(auto, unfolding(crate::specs::Printed::row_text))]
 fn push_row(out: &mut Vec<u8>, row: &Row, instr: &Instr, symbols: &Symbols) -> Result<(), NoMemory>
@@ -341,12 +364,7 @@ fn push_row(out: &mut Vec<u8>, row: &Row, instr: &Instr, symbols: &Symbols) -> R
         (spec.helds_in instr.now (row_operands row.now) 0 0 0)) }
 {
     append(out, row.mnemonic())?;
-    let places = Places {
-        ins: 0,
-        outs: 0,
-        numbers: 0,
-    };
-    push_operands(out, instr, Slot::Gap, &row.operands(), places, symbols)
+    push_behind(out, row, instr, symbols)
 }
 
 /// Adds an instruction's one printed spelling to `out`, with the names of its symbolic registers;

@@ -1,5 +1,5 @@
 //! Reading an instruction by a table of rows.
-ghost use Rattle.std.specs.Prelude.{◌≡◌, ◌<◌, ◌≤◌, ◌+◌, length, map, take, true, slice_get, IfOk, OnOk, OnErr};
+ghost use Rattle.std.specs.Prelude.{◌≡◌, ◌<◌, ◌≤◌, ◌+◌, ◌∷◌, length, map, take, true, slice_get, IfOk, OnOk, OnErr};
 ghost use Rattle.std.specs.List.{list_any};
 ghost use Rattle.form_table.specs.ItemViews.{item_value, lexemes};
 ghost use Rattle.form_table.specs.Rows.{row_operands};
@@ -449,9 +449,9 @@ fn settled_at(table: &Table<'_>, fit: Fit) -> Fit
     settled(row.alias, fit)
 }
 
-// Whether a dot and a word stand directly behind a word.
+/// Whether a dot and a word stand directly behind a word: then they belong to the mnemonic.
 #[tactic(auto, unfolding(crate::specs::Reads::is_suffixed))]
-fn is_suffixed(first: &Token<'_>, tokens: &[Token<'_>]) -> bool
+pub fn is_suffixed(first: &Token<'_>, tokens: &[Token<'_>]) -> bool
     ensures { result ≡ spec.is_suffixed (token_value first.now) (lexemes tokens.now) }
 {
     let Some((dot, rest)) = tokens.split_first() else {
@@ -580,6 +580,38 @@ fn read_operands(
     read_numbered(table, alloc, first, tokens, symbols)
 }
 
+/// Reads the instruction that a mnemonic and the tokens behind it spell, as `read_form` does.
+#[tactic(auto, unfolding(crate::specs::Reads::reads, crate::specs::Symbols::pairs_in))]
+pub fn read_behind(
+    table: &Table<'_>,
+    alloc: Global,
+    first: &Token<'_>,
+    rest: &[Token<'_>],
+    symbols: &mut Symbols,
+) -> Result<Instr, FormErr>
+    requires few { length (rows_of table.now) < 65536 }
+    requires numbers { length (pairs symbols.old) ≤ 65529 }
+    ensures answer { Gives reason_of (λ i. i) result
+        (spec.reads (rows_of table.now)
+        (with_pairs (pairs symbols.old) (pairs_in (token_value first.now ∷ lexemes rest.now)))
+        (token_value first.now ∷ lexemes rest.now)) }
+    ensures ok { OnOk result
+        (pairs symbols.new
+        ≡ with_pairs (pairs symbols.old) (pairs_in (token_value first.now ∷ lexemes rest.now))) }
+    ensures err { OnErr result (pairs symbols.new ≡ pairs symbols.old) }
+    ensures count { length (pairs symbols.new) ≤ length (pairs symbols.old) + 7 }
+{
+    if !knows(table, first, rest) {
+        return Err(FormErr::Refused(FormReason::UnknownMnemonic));
+    }
+    let before = symbols.count();
+    let read = read_operands(table, alloc, first, rest, symbols);
+    if read.is_err() {
+        symbols.truncate(before);
+    }
+    read
+}
+
 /// Reads the instruction that the tokens of a line spell, without line and tag, and
 /// neither early nor late. The tokens hold no comments. Symbolic registers have the numbers of
 /// their names, and new names are added to `symbols`. Where the tokens spell no instruction, the
@@ -604,13 +636,5 @@ pub fn read_form(
     let Some((first, rest)) = tokens.split_first() else {
         return Err(FormErr::Refused(FormReason::UnknownMnemonic));
     };
-    if !knows(table, first, rest) {
-        return Err(FormErr::Refused(FormReason::UnknownMnemonic));
-    }
-    let before = symbols.count();
-    let read = read_operands(table, alloc, first, rest, symbols);
-    if read.is_err() {
-        symbols.truncate(before);
-    }
-    read
+    read_behind(table, alloc, first, rest, symbols)
 }

@@ -1,5 +1,6 @@
 //! A few rows: what the tests of tables ask for can be met, and rows that break it are refused.
 ghost use Rattle.std.specs.Prelude.{◌≡◌, true, false};
+ghost use Rattle.sl_model.specs.declared.instruction.ArchName.TheVariants.{Arm64, M4};
 ghost use Rattle.form_isa.specs.LawfulTable.{is_lawful_row, is_lawful_table};
 ghost use Rattle.form_table.specs.Tables.{is_table};
 
@@ -374,6 +375,7 @@ const PAIR_STORED: Transfer = Transfer {
     pair: true,
     bank: Bank::General,
     width: Width::Double,
+    signed: false,
     addressing: Addressing::After,
 };
 
@@ -393,6 +395,7 @@ const PAIR_LOADED: Transfer = Transfer {
     pair: true,
     bank: Bank::General,
     width: Width::Double,
+    signed: false,
     addressing: Addressing::Before,
 };
 
@@ -421,6 +424,7 @@ const WORD_LOADED: Transfer = Transfer {
     pair: false,
     bank: Bank::Vector,
     width: Width::Word,
+    signed: false,
     addressing: Addressing::Kept,
 };
 
@@ -455,7 +459,7 @@ const LAWFUL: [Row; 7] = [
 /// These rows are lawful.
 #[tactic(auto, unfolding(form_isa::specs::LawfulTable::is_lawful_table, form_isa::specs::LawfulTable::are_only_of, form_isa::specs::LawfulTable::is_last_number, form_isa::specs::Info::classes, form_isa::specs::Info::places_of, form_isa::specs::Info::padded_classes, form_isa::specs::Info::input_classes, form_isa::specs::Info::output_classes, form_isa::specs::TableIsa::ranges, sl_model::specs::RegSets::set_count))]
 pub fn rows_are_lawful()
-    ensures { is_lawful_table LAWFUL ≡ true }
+    ensures { is_lawful_table Arm64 LAWFUL ≡ true }
 {}
 
 const TO_ZERO: Row = Row {
@@ -503,13 +507,13 @@ const FIRST_NUMBER: Row = Row {
 /// results of one, five inputs, and a number that another one follows.
 #[tactic(auto, unfolding(form_isa::specs::LawfulTable::are_only_of, form_isa::specs::LawfulTable::is_last_number, form_isa::specs::Info::classes, form_isa::specs::Info::input_classes, form_isa::specs::Info::output_classes, form_isa::specs::TableIsa::ranges))]
 pub fn others_are_not()
-    ensures zero { is_lawful_row TO_ZERO ≡ false }
-    ensures none { is_lawful_row TO_NONE ≡ false }
-    ensures bank { is_lawful_row TO_VECTOR ≡ false }
-    ensures flags { is_lawful_row WITHOUT_FLAGS ≡ false }
-    ensures results { is_lawful_row TWO_RESULTS ≡ false }
-    ensures inputs { is_lawful_row FIVE_INPUTS ≡ false }
-    ensures number { is_lawful_row FIRST_NUMBER ≡ false }
+    ensures zero { is_lawful_row Arm64 TO_ZERO ≡ false }
+    ensures none { is_lawful_row Arm64 TO_NONE ≡ false }
+    ensures bank { is_lawful_row Arm64 TO_VECTOR ≡ false }
+    ensures flags { is_lawful_row Arm64 WITHOUT_FLAGS ≡ false }
+    ensures results { is_lawful_row Arm64 TWO_RESULTS ≡ false }
+    ensures inputs { is_lawful_row Arm64 FIVE_INPUTS ≡ false }
+    ensures number { is_lawful_row Arm64 FIRST_NUMBER ≡ false }
 {}
 
 const BASED_SUM: Row = Row { third: HELD, ..ADD };
@@ -559,11 +563,20 @@ const TOO_FAR: Row = Row {
 /// isn't written back, more bytes than a register has, and an offset past 2^20.
 #[tactic(auto, unfolding(form_isa::specs::LawfulTable::are_only_of, form_isa::specs::Info::classes, form_isa::specs::Info::places_of, form_isa::specs::Info::padded_classes, form_isa::specs::Info::input_classes, form_isa::specs::Info::output_classes, form_isa::specs::TableIsa::ranges, sl_model::specs::RegSets::set_count))]
 pub fn other_accesses_are_not()
-    ensures sum { is_lawful_row BASED_SUM ≡ false }
-    ensures base { is_lawful_row WITHOUT_BASE ≡ false }
-    ensures order { is_lawful_row BASE_FIRST ≡ false }
-    ensures data { is_lawful_row ONE_STORED ≡ false }
-    ensures back { is_lawful_row NOT_WRITTEN_BACK ≡ false }
-    ensures room { is_lawful_row TOO_WIDE ≡ false }
-    ensures near { is_lawful_row TOO_FAR ≡ false }
+    ensures sum { is_lawful_row Arm64 BASED_SUM ≡ false }
+    ensures base { is_lawful_row Arm64 WITHOUT_BASE ≡ false }
+    ensures order { is_lawful_row Arm64 BASE_FIRST ≡ false }
+    ensures data { is_lawful_row Arm64 ONE_STORED ≡ false }
+    ensures back { is_lawful_row Arm64 NOT_WRITTEN_BACK ≡ false }
+    ensures room { is_lawful_row Arm64 TOO_WIDE ≡ false }
+    ensures near { is_lawful_row Arm64 TOO_FAR ≡ false }
+{}
+
+/// Where registers have 32 bits, rows of 64 and of 128 aren't, but a load of a word is.
+#[tactic(auto, unfolding(form_isa::specs::LawfulTable::are_only_of, form_isa::specs::Info::classes, form_isa::specs::Info::places_of, form_isa::specs::Info::padded_classes, form_isa::specs::Info::input_classes, form_isa::specs::Info::output_classes, form_isa::specs::TableIsa::ranges, sl_model::specs::RegSets::set_count))]
+pub fn wide_rows_are_not()
+    ensures sum { is_lawful_row M4 ADD ≡ false }
+    ensures lanes { is_lawful_row M4 ADD_LANES ≡ false }
+    ensures load { is_lawful_row M4 LOAD_PAIR ≡ false }
+    ensures word { is_lawful_row M4 LOAD_WORD ≡ true }
 {}

@@ -1,10 +1,10 @@
 -- The values of scalar instructions fit.
-use Rattle.std.proofs.Common.{◌≡◌, refl, ⊎_elim, sym, ℕ, ℤ, ◌+◌, ◌-◌, ◌*◌, ◌/◌, ◌%◌, ◌^◌, ◌<◌, ◌≤◌, Bool, true, false, List, length, slice_index, if◌then◌else◌, bit_and, arith, lit<}
+pub use Rattle.scalar_ops.proofs.WordValues.{word-fits, second_word-fits, word-count}
+use Rattle.std.proofs.Common.{◌≡◌, refl, ⊎_elim, sym, subst, ℕ, ℤ, ◌+◌, ◌-◌, ◌*◌, ◌/◌, ◌%◌, ◌^◌, ◌<◌, ◌≤◌, Bool, true, false, List, length, slice_index, if◌then◌else◌, bit_and, arith, lit<}
 use Rattle.std.proofs.Math.Nat.{mod-le}
 use Rattle.std.proofs.lemmas.Nat.{pow_pos, mod_below, shr_le, shr_below, div_below, mul-lt, and_le_l, or_lt, xor_lt}
 use Rattle.std.proofs.lemmas.Bool.{true≢false, cases_Bool}
 use Rattle.sl_isa.specs.declared.meaning.Size.{Size}
-use Rattle.sl_isa.specs.declared.meaning.Size.TheVariants.{Bits32, Bits64}
 use Rattle.sl_isa.specs.declared.meaning.Shift.{Shift}
 use Rattle.sl_isa.specs.declared.meaning.Shift.TheVariants as shift
 use Rattle.sl_isa.specs.declared.meaning.Second.{Second}
@@ -17,7 +17,7 @@ use Rattle.sl_isa.specs.declared.meaning.Scalar.{Scalar}
 use Rattle.sl_isa.specs.declared.meaning.Scalar.TheVariants as scalar
 use Rattle.bit_ops.specs.Bits.{number, extended}
 use Rattle.scalar_ops.specs.Flags.{one_if, sum_flags, complement, condition_holds}
-use Rattle.scalar_ops.specs.Scalar.{bits_of, operand, shifted, second_of, with_flags, bitwise, product_of, high_product, long_product, field, scalar_values, output_count, is_long}
+use Rattle.scalar_ops.specs.Scalar.{bits_of, operand, shifted, second_of, with_flags, bitwise, product_of, high_product, long_product, field, scalar_values, output_count, is_long, result_bits}
 
 -- low bits, and what is no more than a number that fits
 low-fits : (bits x : ℕ) → x % 2 ^ bits < 2 ^ bits
@@ -101,20 +101,22 @@ long_result-fits (scalar.MultiplyHigh signed) bits imms ins e = high-fits signed
 long_result-fits (scalar.MultiplyLong signed) bits imms ins e = long-fits signed _ _ (operand-fits 32 ins 0) (operand-fits 32 ins 1)
 long_result-fits _ bits imms ins e = absurd (true≢false (sym e))
 
-below_wider : (x m n : ℕ) → x < m → m ≤ n → x < n
-below_wider x m n h g = omega (arith, h, g)
+pub result-fits_bits : (op : Scalar) (size : Size) (imms : List ℤ) (ins : List ℕ)
+    → slice_index (scalar_values op (bits_of size) imms ins) 0 < 2 ^ result_bits op size
+result-fits_bits op size imms ins = ⊎_elim long short (cases_Bool (is_long op))
+  where
+    value : ℕ
+    value = slice_index (scalar_values op (bits_of size) imms ins) 0
 
-wide-enough : (size : Size) → 2 ^ bits_of size ≤ 2 ^ 64
-wide-enough Bits32 = omega arith
-wide-enough Bits64 = omega arith
+    long : is_long op ≡ true → value < 2 ^ result_bits op size
+    long e =
+        subst (λ b. value < 2 ^ (if b then 64 else bits_of size)) (sym e)
+        (long_result-fits op (bits_of size) imms ins e)
 
-pub result-fits_register : (op : Scalar) (size : Size) (imms : List ℤ) (ins : List ℕ)
-    → slice_index (scalar_values op (bits_of size) imms ins) 0 < 2 ^ 64
-result-fits_register op size imms ins =
-    ⊎_elim
-    (λ e. long_result-fits op (bits_of size) imms ins e)
-    (λ e. below_wider _ _ _ (result-fits op (bits_of size) imms ins e) (wide-enough size))
-    (cases_Bool (is_long op))
+    short : is_long op ≡ false → value < 2 ^ result_bits op size
+    short e =
+        subst (λ b. value < 2 ^ (if b then 64 else bits_of size)) (sym e)
+        (result-fits op (bits_of size) imms ins e)
 
 one_if-le : (b : Bool) → one_if b ≤ 1
 one_if-le true = omega arith

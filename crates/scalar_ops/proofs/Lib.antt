@@ -1,2 +1,5 @@
 pub mod LowBits
+pub mod Fields
+pub mod WordValues
 pub mod ForCallers
+pub mod Examples

@@ -1,2 +1,4 @@
 pub mod Flags
 pub mod Scalar
+pub mod Halves
+pub mod Words

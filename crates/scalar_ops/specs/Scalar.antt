@@ -153,3 +153,7 @@ is_long scalar.Extract = false
 is_long (scalar.Shift by) = false
 is_long scalar.Field = false
 is_long scalar.Select = false
+
+-- how many bits the result has on registers of a size
+abbrev pub result_bits : Scalar → Size → ℕ
+result_bits op size = if is_long op then 64 else bits_of size

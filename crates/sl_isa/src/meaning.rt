@@ -99,6 +99,70 @@ pub enum Scalar {
     Select,
 }
 
+/// What is added to a product of 64 bits.
+#[derive(Clone, Copy, Debug, PartialEq, Eq)]
+pub enum LongAddend {
+    /// Nothing.
+    Nothing,
+    /// The third operand with the fourth one above it, a number of 64 bits.
+    Pair,
+    /// The third operand and the fourth one.
+    Both,
+}
+
+/// What an instruction computes on general registers of 32 bits.
+#[derive(Clone, Copy, Debug, PartialEq, Eq)]
+pub enum WordOp {
+    /// As many bits as the second number says, from the first number on, with copies of
+    /// the highest of them above.
+    SignedField,
+    /// The low half of the operand, with copies of its sign above it where `signed` is set, else with
+    /// zeros.
+    LowHalf {
+        signed: bool,
+    },
+    /// The operand with the first number in the place of its high half.
+    ReplaceHigh,
+    /// The product of the operands with what is added to it, in two
+    /// registers: the low word, then the high one.
+    MultiplyPair {
+        signed: bool,
+        adds: LongAddend,
+    },
+    /// The high word of the signed product, rounded to the nearest.
+    MultiplyHighRounded,
+    /// The signed product of a half of each of the first two operands: of the high one where this is
+    /// set. The third operand is added where `adds` is set.
+    MultiplyHalves {
+        first_high: bool,
+        second_high: bool,
+        adds: bool,
+    },
+    /// The signed product of the first operand and a half of the second one, without its low 16
+    /// bits. The third operand is added where `adds` is set.
+    MultiplyByHalf {
+        high: bool,
+        adds: bool,
+    },
+    /// The sum of the signed products of the low halves and of the high halves; where `crossed` is
+    /// set, of each half and the other half of the second operand. The third operand is added where
+    /// `adds` is set.
+    MultiplyBothHalves {
+        crossed: bool,
+        adds: bool,
+    },
+    /// The low half of the first operand with the high half of the second one; where `keeps_high` is
+    /// set, the high half of the first one with the low half of the second one.
+    Pack {
+        keeps_high: bool,
+        second: Second,
+    },
+    /// The sums of both halves, or their differences where `minus` is set.
+    AddHalves {
+        minus: bool,
+    },
+}
+
 /// How a vector register is cut in lanes: their number and their bits.
 #[derive(Clone, Copy, Debug, PartialEq, Eq)]
 pub enum Arrangement {
@@ -277,7 +341,7 @@ pub enum Addressing {
 /// of the first register at the lower addresses.
 #[derive(Clone, Copy, Debug, PartialEq, Eq)]
 pub struct Transfer {
-    /// Are registers stored? Else they are loaded, with zeros above what is loaded.
+    /// Are registers stored? Else they are loaded.
     pub store: bool,
     /// Are there two of them? Else there is one.
     pub pair: bool,
@@ -285,6 +349,8 @@ pub struct Transfer {
     pub bank: Bank,
     /// The bytes of each of them.
     pub width: Width,
+    /// Are there copies of the sign above what is loaded, up to 32 bits? Else there are zeros.
+    pub signed: bool,
     pub addressing: Addressing,
 }
 
@@ -295,6 +361,10 @@ pub enum Meaning {
     Scalar { op: Scalar, size: Size },
     /// On vector registers.
     Vector(Vector),
+    /// On general registers of 32 bits.
+    Word(WordOp),
+    /// The low 32 bits of the operand, in a register of this bank.
+    Copy(Bank),
     /// An access to memory.
     Memory(Transfer),
 }

@@ -1,13 +1,15 @@
 -- Texts that start with a word, lines without their ends, and bytes of words.
 use Rattle.std.proofs.Common.{◌≡◌, ℕ, suc, ◌+◌, ◌≤◌, Bool, true, false, cond, ◌&&◌, List, [], ◌∷◌, ◌++◌, length, take, drop, nat_eq, eqb, refl, sym, ap, ◌∙◌, subst, arith, eq-eqb, eqb-true, codes, take-append-drop, append_assoc}
 use Rattle.std.specs.List.{starts_with}
+use Rattle.std.specs.Str.{chars}
 use Rattle.std.specs.Char.{is_ascii_digit, is_ascii_alphanumeric}
 use Rattle.std.proofs.lemmas.Bool.Decides.{nat_tests}
 use Rattle.std.proofs.lemmas.Bool.{and_parts}
 use Rattle.sl_model.specs.declared.text.Comments.{Comments}
-use Rattle.sl_model.specs.declared.text.TokenKind.TheVariants.{Comment}
+use Rattle.sl_model.specs.declared.text.Comments.TheVariants.{Taken}
+use Rattle.sl_model.specs.declared.text.TokenKind.TheVariants.{Comment, Mark}
 use Rattle.sl_model.specs.Text.{is_line_end, without_end}
-use Rattle.sl_model.specs.Token.{begins_word, is_word_byte, comment_length, first_token}
+use Rattle.sl_model.specs.Token.{begins_word, begins_block_comment, is_word_byte, comment_length, first_token}
 
 -- a text that starts with a word is the word and a rest
 pub starts_front : (word text : List ℕ) → starts_with nat_eq text word ≡ true → (rest : List ℕ) × (text ≡ word ++ rest)
@@ -31,9 +33,28 @@ starts_take word text n e =
     subst (λ t. starts_with nat_eq t word ≡ true) (sym whole) (front_starts word (rest.0 ++ drop n text))
 
 -- a text that begins a block comment
-pub first_token-block : (comments : Comments) (text : List ℕ) → starts_with nat_eq text (codes "/*") ≡ true → first_token comments text ≡ (Comment, comment_length (drop 2 text) + 2)
+pub first_token-block : (comments : Comments) (text : List ℕ) → begins_block_comment comments text ≡ true → first_token comments text ≡ (Comment, comment_length (drop 2 text) + 2)
 unfolding first_token
 first_token-block comments text begins = rw begins
+
+slash_alone : (rest : List ℕ) → first_token Taken (47 ∷ 42 ∷ rest) ≡ (Mark, 1)
+unfolding first_token chars
+slash_alone rest = refl
+
+taken_at : (text rest : List ℕ) → text ≡ 47 ∷ 42 ∷ rest → starts_with nat_eq (take (first_token Taken text).1 text) (codes "/*") ≡ false
+taken_at text rest e =
+    ap (λ t. starts_with nat_eq (take (first_token Taken t).1 t) (codes "/*")) e
+    ∙ ap (λ found. starts_with nat_eq (take found.1 (47 ∷ 42 ∷ rest)) (codes "/*")) (slash_alone rest)
+
+taken_by : (text : List ℕ) (b : Bool) → starts_with nat_eq (take (first_token Taken text).1 text) (codes "/*") ≡ b → b ≡ false
+taken_by text false is = refl
+taken_by text true is =
+    let front = starts_front (codes "/*") text (starts_take (codes "/*") text (first_token Taken text).1 is) in
+    sym is ∙ taken_at text front.0 front.1
+
+-- where comments were taken off, no token begins one
+pub taken_begins : (text : List ℕ) → starts_with nat_eq (take (first_token Taken text).1 text) (codes "/*") ≡ false
+taken_begins text = taken_by text (starts_with nat_eq (take (first_token Taken text).1 text) (codes "/*")) refl
 
 -- a byte that begins a word is one of words
 pub begin_word : (c : ℕ) → begins_word c ≡ true → is_word_byte c ≡ true

@@ -5,7 +5,7 @@ use Rattle.std.specs.Char.{is_ascii_alphabetic, is_ascii_alphanumeric, is_ascii_
 use Rattle.std.specs.List.{starts_with, list_all, prefix_len}
 use Rattle.std.specs.Str.{chars}
 use Rattle.sl_model.specs.declared.text.Comments.{Comments}
-use Rattle.sl_model.specs.declared.text.Comments.TheVariants.{Slash, SlashAt}
+use Rattle.sl_model.specs.declared.text.Comments.TheVariants.{Slash, SlashAt, Taken}
 use Rattle.sl_model.specs.declared.text.TokenKind.{TokenKind}
 use Rattle.sl_model.specs.declared.text.TokenKind.TheVariants.{Word, Number, Mark, Comment}
 use Rattle.sl_model.specs.Text.{is_blank, holds}
@@ -43,6 +43,13 @@ abbrev pub begins_line_comment : Comments → List ℕ → Bool
 begins_line_comment Slash text = starts_with nat_eq text (codes "//")
 begins_line_comment SlashAt text =
     starts_with nat_eq text (codes "//") || starts_with nat_eq text (codes "@")
+begins_line_comment Taken text = false
+
+-- Does a text begin with a block comment?
+abbrev pub begins_block_comment : Comments → List ℕ → Bool
+begins_block_comment Slash text = starts_with nat_eq text (codes "/*")
+begins_block_comment SlashAt text = starts_with nat_eq text (codes "/*")
+begins_block_comment Taken text = false
 
 -- the first character of a text that is not empty
 abbrev pub first_char : List ℕ → ℕ
@@ -52,7 +59,7 @@ first_char text = slice_index (chars text) 0
 -- empty and begins with no blank.
 unfoldable pub first_token : Comments → List ℕ → TokenKind × ℕ
 first_token comments text =
-    if starts_with nat_eq text (codes "/*") then (Comment, comment_length (drop 2 text) + 2)
+    if begins_block_comment comments text then (Comment, comment_length (drop 2 text) + 2)
     else (if begins_line_comment comments text then (Comment, length text)
     else (if begins_word (first_char text) then (Word, prefix_len is_word_byte text)
     else (if is_ascii_digit (first_char text) then (Number, prefix_len is_ascii_alphanumeric text)

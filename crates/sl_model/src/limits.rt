@@ -21,3 +21,9 @@ pub const STALLS: u32 = 64;
 
 /// The most turns of a loop that `run` takes.
 pub const TURNS: u32 = 10000000;
+
+/// The most that the statements of an expansion add up to, each with its bytes and one more.
+pub const EXPANSION_SUM: u32 = 1048576;
+
+/// How deep macros may invoke one another.
+pub const EXPANSION_DEPTH: u32 = 16;

@@ -24,12 +24,14 @@ pub enum TokenKind {
     Comment,
 }
 
-/// Which characters start a comment to the line's end; `/*` starts one
-/// that runs to `*/` in either case.
+/// Which characters start a comment to the line's end; where there are
+/// comments, `/*` starts one that runs to `*/`.
 #[derive(Clone, Copy, Debug, PartialEq, Eq)]
 pub enum Comments {
     /// `//` alone.
     Slash,
     /// `//` and `@`.
     SlashAt,
+    /// Nothing starts one: comments were taken off.
+    Taken,
 }

@@ -5,18 +5,20 @@ use Rattle.std.proofs.lemmas.Iterator.{YieldsList}
 use Rattle.std.proofs.lemmas.Iterator.Consumers.{YieldsList-from_shown}
 use Rattle.std.proofs.lemmas.Str.{IsCharBoundary-start, IsCharBoundary-end, IsCharBoundary-after_ascii, IsCharBoundary-from_rest, IsCharBoundary-past_char, IsUtf8-drop, chars_past_char, byte_from_char, len_utf8_bounds}
 use Rattle.std.specs.Char.{is_ascii_alphanumeric, is_ascii_digit, len_utf8}
+use Rattle.std.specs.Str.{chars}
 use Rattle.std.specs.List.{starts_with, prefix_len}
 use Rattle.sl_model.specs.declared.text.Comments.{Comments}
+use Rattle.sl_model.specs.declared.text.Comments.TheVariants.{Slash, SlashAt, Taken}
 use Rattle.sl_model.specs.declared.text.TokenKind.{TokenKind}
 use Rattle.sl_model.specs.declared.text.TokenKind.TheVariants.{Word, Number, Mark, Comment}
 use Rattle.sl_model.specs.Text.{is_blank, holds}
-use Rattle.sl_model.specs.Token.{Lexeme, begins_word, is_word_byte, comment_length, begins_line_comment, first_char, first_token, lexeme, tokens_from, tokens_at, leaves_open, open_behind}
+use Rattle.sl_model.specs.Token.{Lexeme, begins_word, is_word_byte, comment_length, begins_line_comment, begins_block_comment, first_char, first_token, lexeme, tokens_from, tokens_at, leaves_open, open_behind}
 use Rattle.sl_text.specs.Tokens.{shape, blanks_before, IsFirst, GivesToken, token_value, tokens_left, is_inside}
 use Rattle.sl_text.specs.declared.token.Token.{Token}
 use Rattle.sl_text.specs.declared.token.Tokens.{Tokens}
 use Rattle.sl_text.proofs.LineLemmas.{Ends, ends_later, ends_boundary}
 use Rattle.std.proofs.lemmas.Bool.{and_parts}
-use Rattle.sl_laws.proofs.Texts.{begin_word, digit_alphanumeric, first_token-block, starts_front, starts_take}
+use Rattle.sl_laws.proofs.Texts.{begin_word, digit_alphanumeric, first_token-block, starts_front, starts_take, taken_begins}
 use Rattle.std.proofs.lemmas.Bool.{not-true, or_parts}
 
 -- ---- runs of bytes that pass a test
@@ -176,6 +178,12 @@ chosen : {X : Type 0} (P : X → Type 0) (b : Bool) (x y : X) → (b ≡ true �
 chosen P true x y here there = here refl
 chosen P false x y here there = there refl
 
+-- a block comment is begun by its mark
+block_begins : (comments : Comments) (text : List ℕ) → begins_block_comment comments text ≡ true → starts_with nat_eq text (codes "/*") ≡ true
+block_begins Slash text e = e
+block_begins SlashAt text e = e
+block_begins Taken text e = cc
+
 first_token_length : (comments : Comments) (text : List ℕ) → IsUtf8 text → 0 < length text → IsLength text (first_token comments text).1
 unfolding first_token
 first_token_length comments text utf8 some =
@@ -185,7 +193,7 @@ first_token_length comments text utf8 some =
     let number : TokenKind × ℕ = cond (is_ascii_digit c) (Number, prefix_len is_ascii_alphanumeric text) mark in
     let word : TokenKind × ℕ = cond (begins_word c) (Word, prefix_len is_word_byte text) number in
     let comment : TokenKind × ℕ = cond (begins_line_comment comments text) (Comment, length text) word in
-    chosen P (starts_with nat_eq text (codes "/*")) (Comment, comment_length (drop 2 text) + 2) comment (λ e. block_length text utf8 e)
+    chosen P (begins_block_comment comments text) (Comment, comment_length (drop 2 text) + 2) comment (λ e. block_length text utf8 (block_begins comments text e))
     (λ _. chosen P (begins_line_comment comments text) (Comment, length text) word (λ _. record { some = some; boundary = IsCharBoundary-end text })
     (λ _. chosen P (begins_word c) (Word, prefix_len is_word_byte text) number (λ e. run_length begins_word is_word_byte word_ascii begin_ascii begin_word text utf8 some e)
     (λ _. chosen P (is_ascii_digit c) (Number, prefix_len is_ascii_alphanumeric text) mark (λ e. run_length is_ascii_digit is_ascii_alphanumeric alphanumeric_ascii digit_ascii digit_alphanumeric text utf8 some e)
@@ -214,15 +222,24 @@ begun_open text rest e never =
     let unclosed : holds (codes "*/") (take m rest) ≡ false = ap (λ t. holds (codes "*/") (drop 2 t)) (sym token) ∙ never in
     ap (λ n. drop n text) size ∙ ap (drop (suc (suc m))) e ∙ open_block rest m refl unclosed
 
-first_open : (comments : Comments) (text : List ℕ) → leaves_open false (take (first_token comments text).1 text) ≡ true → drop (first_token comments text).1 text ≡ []
-first_open comments text e =
+first_open_with : (comments : Comments) (text : List ℕ) → (starts_with nat_eq text (codes "/*") ≡ true → begins_block_comment comments text ≡ true) → leaves_open false (take (first_token comments text).1 text) ≡ true → drop (first_token comments text).1 text ≡ []
+first_open_with comments text block e =
     let n = (first_token comments text).1 in
     let tests = and_parts (starts_with nat_eq (take n text) (codes "/*")) (not (holds (codes "*/") (drop 2 (take n text)))) e in
     let begins : starts_with nat_eq text (codes "/*") ≡ true = starts_take (codes "/*") text n tests.0 in
-    let size : n ≡ comment_length (drop 2 text) + 2 = ap (λ found. found.1) (first_token-block comments text begins) in
+    let size : n ≡ comment_length (drop 2 text) + 2 = ap (λ found. found.1) (first_token-block comments text (block begins)) in
     let never : holds (codes "*/") (drop 2 (take (comment_length (drop 2 text) + 2) text)) ≡ false = ap (λ k. holds (codes "*/") (drop 2 (take k text))) (sym size) ∙ not-true (holds (codes "*/") (drop 2 (take n text))) tests.1 in
     let front = starts_front (codes "/*") text begins in
     ap (λ k. drop k text) size ∙ begun_open text front.0 front.1 never
+
+first_open : (comments : Comments) (text : List ℕ) → leaves_open false (take (first_token comments text).1 text) ≡ true → drop (first_token comments text).1 text ≡ []
+first_open Slash text e = first_open_with Slash text (λ begins. begins) e
+first_open SlashAt text e = first_open_with SlashAt text (λ begins. begins) e
+first_open Taken text e =
+    let n = (first_token Taken text).1 in
+    let tests = and_parts (starts_with nat_eq (take n text) (codes "/*")) (not (holds (codes "*/") (drop 2 (take n text)))) e in
+    let never : starts_with nat_eq (take n text) (codes "/*") ≡ false = taken_begins text in
+    let both_ways : true ≡ false = sym tests.0 ∙ never in cc
 
 -- behind such a token stands nothing
 pub open_rest : (comments : Comments) (inside : Bool) (text : List ℕ) → leaves_open inside (take (shape comments inside text).1 text) ≡ true → drop (shape comments inside text).1 text ≡ []

@@ -94,6 +94,18 @@ fn begins_line_comment(text: &[u8], comments: Comments) -> bool
     match comments {
         Comments::Slash => text.starts_with(b"//"),
         Comments::SlashAt => text.starts_with(b"//") || text.starts_with(b"@"),
+        Comments::Taken => false,
+    }
+}
+
+// Whether a text begins with a block comment.
+fn begins_block_comment(text: &[u8], comments: Comments) -> bool
+    ensures { result ≡ spec.begins_block_comment comments text.now }
+{
+    match comments {
+        Comments::Slash => text.starts_with(b"/*"),
+        Comments::SlashAt => text.starts_with(b"/*"),
+        Comments::Taken => false,
     }
 }
 
@@ -111,7 +123,7 @@ fn first_token(text: &[u8], first: char, comments: Comments) -> (TokenKind, usiz
     requires { first ≡ spec.first_char text.now }
     ensures { result ≡ spec.first_token comments text.now }
 {
-    if text.starts_with(b"/*") {
+    if begins_block_comment(text, comments) {
         return (TokenKind::Comment, comment_length(&text[2..]) + 2);
     }
     if begins_line_comment(text, comments) {

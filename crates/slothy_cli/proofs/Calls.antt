@@ -1,6 +1,7 @@
 -- What the ending of a call says of its status.
 use Rattle.std.proofs.Common.{sym, ◌∙◌, ◌≡◌, ℕ, ◌⊎◌, inl, inr, List, Option, None, Some, Result, Ok, Err, refl, ap, subst}
 use Rattle.std.specs.Prelude.{MatchOption, MatchResult}
+use Rattle.sl_model.specs.declared.instruction.ArchName.{ArchName}
 use Rattle.slothy_cli.specs.declared.stop.File.{File}
 use Rattle.slothy_cli.specs.declared.stop.Stop.{Stop}
 use Rattle.slothy_cli.specs.declared.stop.Stop.TheVariants.{CoreRefused, Refused, TooLarge, Infeasible}
@@ -16,6 +17,7 @@ use Rattle.sl_model.specs.Answers.{Gives}
 use Rattle.slothy_cli.specs.Command.{Job, cost, opt, Command, command_in, command_by, command_of}
 use Rattle.slothy_cli.specs.Setting.{Setting}
 use Rattle.sl_isa.specs.Language.{Language}
+use Rattle.slothy_cli.specs.Languages.{language_of}
 use Rattle.slothy_cli.specs.Reads.{outcome}
 use Rattle.slothy_cli.specs.Outcome.{JobAnswers, Work, scheduling, running, WorkAnswers, command_reads, CommandAnswers}
 use Rattle.slothy_cli.specs.Messages.{Names, status_of, stop_status, message_of}
@@ -23,8 +25,8 @@ use Rattle.slothy_cli.specs.Ending.{FilesRun, SinkRun, TookNothing, TookFront, S
 use Rattle.slothy_cli.proofs.Follows.{AgreesOrFails, follows-no_memory, follows-never, follows-agrees}
 
 -- what the words ask for has ended so
-abbrev pub HasEnded : Language → Option Command → (List ℕ → Option (List ℕ)) → FilesRun → SinkRun → Ending → Type 0
-HasEnded language command holds files out ending = MatchOption command (IsWrong ending × TookNothing out) (λ c. Ends language c (seen_of c holds files) out ending)
+abbrev pub HasEnded : Option Command → (List ℕ → Option (List ℕ)) → FilesRun → SinkRun → Ending → Type 0
+HasEnded command holds files out ending = MatchOption command (IsWrong ending × TookNothing out) (λ c. Ends (language_of c.arch) c (seen_of c holds files) out ending)
 
 -- ---- wrong use
 
@@ -43,26 +45,30 @@ end_is_no_usage language c seen out (endings.WriteFault sent) h e = cc
 end_is_no_usage language c seen out endings.NoMemory h e = cc
 
 -- wrong use is answered only where the words are wrong
-pub usage_then : (language : Language) (command : Option Command) (holds : List ℕ → Option (List ℕ)) (files : FilesRun) (out : SinkRun) (ending : Ending) → HasEnded language command holds files out ending → status_of ending ≡ statuses.Usage → command ≡ None
-usage_then language None holds files out ending h e = refl
-usage_then language (Some c) holds files out ending h e = absurd (end_is_no_usage language c (seen_of c holds files) out ending h e)
+pub usage_then : (command : Option Command) (holds : List ℕ → Option (List ℕ)) (files : FilesRun) (out : SinkRun) (ending : Ending) → HasEnded command holds files out ending → status_of ending ≡ statuses.Usage → command ≡ None
+usage_then None holds files out ending h e = refl
+usage_then (Some c) holds files out ending h e = absurd (end_is_no_usage (language_of c.arch) c (seen_of c holds files) out ending h e)
 
 wrong_status : (ending : Ending) → IsWrong ending → (status_of ending ≡ statuses.Usage) ⊎ (status_of ending ≡ statuses.NoMemory)
 wrong_status ending (inl e) = inl (ap status_of e)
 wrong_status ending (inr e) = inr (ap status_of e)
 
 -- and there always, want of memory aside
-pub then_usage : (language : Language) (command : Option Command) (holds : List ℕ → Option (List ℕ)) (files : FilesRun) (out : SinkRun) (ending : Ending) → HasEnded language command holds files out ending → command ≡ None
+pub then_usage : (command : Option Command) (holds : List ℕ → Option (List ℕ)) (files : FilesRun) (out : SinkRun) (ending : Ending) → HasEnded command holds files out ending → command ≡ None
     → (status_of ending ≡ statuses.Usage) ⊎ (status_of ending ≡ statuses.NoMemory)
-then_usage language None holds files out ending h e = wrong_status ending h.0
-then_usage language (Some c) holds files out ending h e = absurd (cc)
+then_usage None holds files out ending h e = wrong_status ending h.0
+then_usage (Some c) holds files out ending h e = absurd (cc)
 
 -- memory that runs out before the words were read ends any call
-pub ends-no_memory : (language : Language) (command : Option Command) (holds : List ℕ → Option (List ℕ)) (files : FilesRun) (out : SinkRun) → TookNothing out → HasEnded language command holds files out endings.NoMemory
-ends-no_memory language None holds files out took = (inr refl, took)
-ends-no_memory language (Some c) holds files out took = (follows-no_memory (seen_of c holds files) (WorkAnswers language) (command_reads language c), took)
+pub ends-no_memory : (command : Option Command) (holds : List ℕ → Option (List ℕ)) (files : FilesRun) (out : SinkRun) → TookNothing out → HasEnded command holds files out endings.NoMemory
+ends-no_memory None holds files out took = (inr refl, took)
+ends-no_memory (Some c) holds files out took = (follows-no_memory (seen_of c holds files) (WorkAnswers (language_of c.arch)) (command_reads (language_of c.arch) c), took)
 
 -- ---- how a call is put together
+
+-- a command that ended so for the architecture that it names
+pub ends-for : (arch name : ArchName) (c : Command) (seen : Seen) (out : SinkRun) (ending : Ending) → arch ≡ name → Ends (language_of name) c seen out ending → Ends (language_of arch) c seen out ending
+ends-for arch name c seen out ending is ends = subst (λ a. Ends (language_of a) c seen out ending) (sym is) ends
 
 -- a command that came to no text
 pub ends-failed : (language : Language) (c : Command) (seen : Seen) (out : SinkRun) (ending : Ending) → Comes language c seen (Err ending) → TookNothing out → Ends language c seen out ending
@@ -73,26 +79,26 @@ ends-failed language c seen out (endings.ReadFault file) h took = (h, took)
 ends-failed language c seen out (endings.WriteFault sent) h took = absurd (follows-never seen (WorkAnswers language) (command_reads language c) (endings.WriteFault sent) (λ file f. f) (λ IsAnswer f. f) h)
 ends-failed language c seen out endings.NoMemory h took = (h, took)
 
-module _ (language : Language) (words : List (List ℕ)) (holds : List ℕ → Option (List ℕ)) (files : FilesRun) (out err : SinkRun) where
+module _ (words : List (List ℕ)) (holds : List ℕ → Option (List ℕ)) (files : FilesRun) (out err : SinkRun) where
   -- words that are wrong
-  pub call-wrong : (ending : Ending) → ending ≡ endings.Usage → command_of words ≡ None → TookNothing out → TookFront err (message_of (names_given None) endings.Usage) → Call language words holds files out err ending
-  call-wrong ending is none took told = subst (Call language words holds files out err) (sym is) (record {
-    cause = subst (λ o. HasEnded language o holds files out endings.Usage) (sym none) (inl refl, took);
+  pub call-wrong : (ending : Ending) → ending ≡ endings.Usage → command_of words ≡ None → TookNothing out → TookFront err (message_of (names_given None) endings.Usage) → Call words holds files out err ending
+  call-wrong ending is none took told = subst (Call words holds files out err) (sym is) (record {
+    cause = subst (λ o. HasEnded o holds files out endings.Usage) (sym none) (inl refl, took);
     message = subst (λ o. TookFront err (message_of (names_given o) endings.Usage)) (sym none) told;
   })
 
   -- memory that ran out before the words were read
-  pub call-no_memory : (ending : Ending) → ending ≡ endings.NoMemory → TookNothing out → TookFront err (message_of (names_given None) endings.NoMemory) → Call language words holds files out err ending
+  pub call-no_memory : (ending : Ending) → ending ≡ endings.NoMemory → TookNothing out → TookFront err (message_of (names_given None) endings.NoMemory) → Call words holds files out err ending
   unfolding message_of
-  call-no_memory ending is took told = subst (Call language words holds files out err) (sym is) (record {
-    cause = ends-no_memory language (command_of words) holds files out took;
+  call-no_memory ending is took told = subst (Call words holds files out err) (sym is) (record {
+    cause = ends-no_memory (command_of words) holds files out took;
     message = told;
   })
 
   -- a command that ended
-  pub call-ended : (c : Command) (names : Names) (ending : Ending) → command_of words ≡ Some c → names ≡ names_of_command c → Ends language c (seen_of c holds files) out ending → TookFront err (message_of names ending) → Call language words holds files out err ending
+  pub call-ended : (c : Command) (names : Names) (ending : Ending) → command_of words ≡ Some c → names ≡ names_of_command c → Ends (language_of c.arch) c (seen_of c holds files) out ending → TookFront err (message_of names ending) → Call words holds files out err ending
   call-ended c names ending some same ends told = record {
-    cause = subst (λ o. HasEnded language o holds files out ending) (sym some) ends;
+    cause = subst (λ o. HasEnded o holds files out ending) (sym some) ends;
     message = subst (λ o. TookFront err (message_of (names_given o) ending)) (sym some) (subst (λ n. TookFront err (message_of n ending)) same told);
   }
 
@@ -194,8 +200,8 @@ status_of_known language c seen bytes out (endings.WriteFault sent) answer e a h
 status_of_known language c seen bytes out endings.NoMemory answer e a h = no_memory_status answer
 
 -- the status of files whose bytes are known is that of each answer to them
-pub exact_status : (language : Language) (command : Option Command) (holds : List ℕ → Option (List ℕ)) (files : FilesRun) (out : SinkRun) (ending : Ending) → HasEnded language command holds files out ending
-    → (c : Command) (bytes : File → List ℕ) (answer : Result (List ℕ) Stop) → command ≡ Some c → AreTold (names_of_command c) holds bytes (command_reads language c) → CommandAnswers language c bytes answer → IsStatusOf answer (status_of ending)
-exact_status language command holds files out ending h c bytes answer e k a =
-    let P : Option Command → Type 0 = λ o. HasEnded language o holds files out ending in
-    status_of_known language c (seen_of c holds files) bytes out ending answer k a (subst P e h)
+pub exact_status : (command : Option Command) (holds : List ℕ → Option (List ℕ)) (files : FilesRun) (out : SinkRun) (ending : Ending) → HasEnded command holds files out ending
+    → (c : Command) (bytes : File → List ℕ) (answer : Result (List ℕ) Stop) → command ≡ Some c → AreTold (names_of_command c) holds bytes (command_reads (language_of c.arch) c) → CommandAnswers (language_of c.arch) c bytes answer → IsStatusOf answer (status_of ending)
+exact_status command holds files out ending h c bytes answer e k a =
+    let P : Option Command → Type 0 = λ o. HasEnded o holds files out ending in
+    status_of_known (language_of c.arch) c (seen_of c holds files) bytes out ending answer k a (subst P e h)

@@ -10,6 +10,7 @@ use Rattle.command_words.specs.declared.options.CoreWord.TheVariants as cores
 use Rattle.command_words.specs.declared.options.Mode.{Mode}
 use Rattle.command_words.specs.declared.options.Mode.TheVariants as modes
 use Rattle.command_words.specs.declared.options.Options.{Options}
+use Rattle.sl_model.specs.declared.instruction.ArchName.{ArchName}
 use Rattle.sl_model.specs.declared.register.RegSet.{RegSet}
 use Rattle.sl_model.specs.declared.limits.TheConstants.{ITEMS, SEARCHED}
 
@@ -31,8 +32,9 @@ pub data Task : Type 0 where
   upon : CoreWord → Job → Task
   emulate : List ℕ → ℕ → Task
 
--- what is to be done, the file, and the labels at the start and at the end of its region
+-- the architecture, what is to be done, the file, and the labels at the start and at the end of its region
 pub record Command : Type 0 where
+  pub arch : ArchName
   pub task : Task
   pub name : List ℕ
   pub start : List ℕ
@@ -51,7 +53,8 @@ task_in modes.Run o = option_map (λ state. emulate state o.turns) o.state
 -- the command of options
 abbrev pub command_in : Options → Option Command
 command_in o =
-    option_map (λ task. record { task = task; name = o.input; start = o.start; end = o.end })
+    option_map
+    (λ task. record { arch = o.arch; task = task; name = o.input; start = o.start; end = o.end })
     (task_in o.mode o)
 
 -- the command of options, where there are some

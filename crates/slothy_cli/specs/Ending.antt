@@ -12,6 +12,7 @@ use Rattle.slothy_cli.specs.declared.status.Ending.{Ending}
 use Rattle.slothy_cli.specs.declared.status.Ending.TheVariants.{Done, Usage, Stopped, ReadFault, WriteFault, NoMemory}
 use Rattle.command_words.specs.declared.options.CoreWord.TheVariants as cores
 use Rattle.slothy_cli.specs.Command.{Task, upon, emulate, Command, command_of}
+use Rattle.slothy_cli.specs.Languages.{language_of}
 use Rattle.slothy_cli.specs.Reads.{Reads, Given, Halted, Read, too_long}
 use Rattle.slothy_cli.specs.Outcome.{command_reads, WorkAnswers}
 use Rattle.slothy_cli.specs.Messages.{Names, name_in, stop_status, message_of}
@@ -193,11 +194,11 @@ abbrev pub IsWrong : Ending → Type 0
 IsWrong ending = (ending ≡ Usage) ⊎ (ending ≡ NoMemory)
 
 -- A call with these words, on files of which `holds` tells what is known, ended so.
-pub record Call (language : Language) (words : List (List ℕ)) (holds : List ℕ → Option (List ℕ))
-    (files : FilesRun) (out err : SinkRun) (ending : Ending) : Type 0 where
+pub record Call (words : List (List ℕ)) (holds : List ℕ → Option (List ℕ)) (files : FilesRun)
+    (out err : SinkRun) (ending : Ending) : Type 0 where
   -- wrong use where the words are wrong, and else an ending of the command with its cause
   pub cause : MatchOption (command_of words) (IsWrong ending × TookNothing out)
-      (λ c. Ends language c (seen_of c holds files) out ending)
+      (λ c. Ends (language_of c.arch) c (seen_of c holds files) out ending)
   -- the error output took the ending's message
   pub message : TookFront err (message_of (names_given (command_of words)) ending)
 

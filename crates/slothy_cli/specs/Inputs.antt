@@ -12,6 +12,8 @@ use Rattle.core_text.specs.Reading.{core_from}
 use Rattle.core_text.specs.Refusal as core_text
 use Rattle.core_models.specs.Costs.{Lacking, costs_of}
 use Rattle.sl_isa.specs.Language.{Language}
+use Rattle.macro_expand.specs.declared.reasons.ExpandReason.{ExpandReason}
+use Rattle.macro_expand.specs.declared.reasons.ExpandReason.TheVariants as expanding
 use Rattle.asm_reader.specs.declared.reasons.Reason as reading
 use Rattle.asm_reader.specs.declared.reasons.Reason.TheVariants as why
 use Rattle.asm_reader.specs.declared.reasons.Refusal.{Refusal}
@@ -43,11 +45,25 @@ text_or file bytes (Some line) = Err (Refused file line reasons.NotText)
 abbrev pub text_from : File → List ℕ → Result (List ℕ) Stop
 text_from file bytes = text_or file bytes (bad_line bytes)
 
+-- why a region isn't expanded, as a reason to stop
+abbrev pub expand_stop : ℕ → ExpandReason → Stop
+expand_stop line expanding.NoEndm = Refused files.Input line reasons.NoEndm
+expand_stop line expanding.MacroTwice = Refused files.Input line reasons.MacroTwice
+expand_stop line expanding.MacroShape = Refused files.Input line reasons.MacroShape
+expand_stop line expanding.ArgCount = Refused files.Input line reasons.ArgCount
+expand_stop line expanding.ParamUnknown = Refused files.Input line reasons.ParamUnknown
+expand_stop line expanding.AliasTwice = Refused files.Input line reasons.AliasTwice
+expand_stop line expanding.AliasUnknown = Refused files.Input line reasons.AliasUnknown
+expand_stop line (expanding.Depth limit) = TooLarge files.Input line quantities.Depth limit
+expand_stop line (expanding.ExpansionSize limit) =
+    TooLarge files.Input line quantities.Expansion limit
+
 -- why a text gives no region, as a reason to stop
 abbrev pub stop_at : ℕ → reading.Reason → Stop
 stop_at line (why.Cut cuts.NoStart) = Refused files.Input line reasons.NoStart
 stop_at line (why.Cut cuts.NoEnd) = Refused files.Input line reasons.NoEnd
 stop_at line (why.Cut (cuts.Twice second)) = Refused files.Input line reasons.Twice
+stop_at line (why.Expand reason) = expand_stop line reason
 stop_at line (why.Form form) = Refused files.Input line (reasons.Form form)
 stop_at line why.TagBad = Refused files.Input line reasons.TagBad
 stop_at line why.SymbolUnset = Refused files.Input line reasons.SymbolUnset

@@ -8,4 +8,5 @@ pub mod Inputs
 pub mod Outcome
 pub mod Messages
 pub mod NamesShown
+pub mod Languages
 pub mod Ending

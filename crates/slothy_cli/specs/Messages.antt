@@ -75,6 +75,13 @@ reason_text reasons.NotText = codes "NotText"
 reason_text reasons.NoStart = codes "NoStart"
 reason_text reasons.NoEnd = codes "NoEnd"
 reason_text reasons.Twice = codes "Twice"
+reason_text reasons.NoEndm = codes "NoEndm"
+reason_text reasons.MacroTwice = codes "MacroTwice"
+reason_text reasons.MacroShape = codes "MacroShape"
+reason_text reasons.ArgCount = codes "ArgCount"
+reason_text reasons.ParamUnknown = codes "ParamUnknown"
+reason_text reasons.AliasTwice = codes "AliasTwice"
+reason_text reasons.AliasUnknown = codes "AliasUnknown"
 reason_text reasons.TagBad = codes "TagBad"
 reason_text reasons.SymbolUnset = codes "SymbolUnset"
 reason_text reasons.NotYet = codes "NotYet"
@@ -86,6 +93,8 @@ reason_text reasons.ClassMissing = codes "ClassMissing"
 abbrev pub quantity_text : Quantity → List ℕ
 quantity_text quantities.File = codes "file"
 quantity_text quantities.Items = codes "items"
+quantity_text quantities.Depth = codes "depth"
+quantity_text quantities.Expansion = codes "expansion"
 
 -- the names of a command's files
 pub record Names : Type 0 where

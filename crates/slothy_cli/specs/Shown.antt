@@ -42,6 +42,7 @@ setting_of s =
 -- a command without where its names lie in memory
 abbrev pub shown : words.Command → Command
 shown c = record {
+  arch = c.arch;
   task = shown_task c.task;
   name = c.name.now;
   start = c.start.now;

@@ -9,6 +9,7 @@ ghost use Rattle.slothy_cli.specs.Shown.{shown, shown_job, shown_task};
 use crate::files::Names;
 use asm_reader::Wants;
 use command_words::{CoreWord, Mode, Options};
+use sl_isa::ArchName;
 use sl_model::limits::{ITEMS, SEARCHED};
 use sl_model::register::RegSet;
 
@@ -97,6 +98,8 @@ impl<'a> Task<'a> {
 /// What is to be done, with which region of which file.
 #[derive(Clone, Copy)]
 pub struct Command<'a> {
+    /// The architecture of the region.
+    pub arch: ArchName,
     /// What is to be done.
     pub task: Task<'a>,
     /// The name of the file with the region.
@@ -169,6 +172,7 @@ pub fn command_in(options: &Options) -> Option<Command<'_>>
 {
     let task = task_in(options)?;
     Some(Command {
+        arch: options.arch,
         task,
         name: options.input.text(),
         start: options.start.text(),

@@ -7,13 +7,16 @@ ghost use Rattle.asm_reader.specs.Regions.{IsRegion};
 ghost use Rattle.asm_reader.specs.RegionViews.{region_of};
 ghost use Rattle.sl_model.specs.Answers.{Answers, Gives, Refuses};
 ghost use Rattle.slothy_cli.specs.Command.{wants_of};
-ghost use Rattle.slothy_cli.specs.Inputs.{text_from, stop_at, region_or, region_from, file_region};
+ghost use Rattle.slothy_cli.specs.Inputs.{text_from, expand_stop, stop_at, region_or, region_from, file_region};
+ghost use Rattle.slothy_cli.specs.declared.stop.File.TheVariants.{Input};
+ghost use Rattle.slothy_cli.specs.declared.stop.Stop.TheVariants.{TooLarge};
 ghost use Rattle.slothy_cli.specs.Shown.{shown, shown_task, stop_told};
 ghost use Rattle.sl_model.specs.declared.limits.TheConstants.{FILE_BYTES};
 
 use crate::command::Command;
 use crate::stop::{Failure, File, Quantity, Reason, Stop};
 use asm_reader::{ReadRefusal, Reason as RegionReason, Refusal, Region, read_region};
+use macro_expand::ExpandReason;
 use sl_isa::Arch;
 use sl_text::{CutRefusal, text_of};
 use std::alloc::Global;
@@ -34,6 +37,42 @@ pub fn text_from(file: File, bytes: &[u8]) -> Result<&str, Stop>
     }
 }
 
+// Why there is no text, where a region isn't expanded.
+fn expand_stop(line: u32, reason: ExpandReason) -> Stop
+    ensures { result ≡ expand_stop line reason }
+{
+    let reason = match reason {
+        ExpandReason::NoEndm => Reason::NoEndm,
+        ExpandReason::MacroTwice => Reason::MacroTwice,
+        ExpandReason::MacroShape => Reason::MacroShape,
+        ExpandReason::ArgCount => Reason::ArgCount,
+        ExpandReason::ParamUnknown => Reason::ParamUnknown,
+        ExpandReason::AliasTwice => Reason::AliasTwice,
+        ExpandReason::AliasUnknown => Reason::AliasUnknown,
+        ExpandReason::Depth { limit } => return too_large(line, Quantity::Depth, limit),
+        ExpandReason::ExpansionSize { limit } => {
+            return too_large(line, Quantity::Expansion, limit);
+        }
+    };
+    Stop::Refused {
+        file: File::Input,
+        line,
+        reason,
+    }
+}
+
+// A quantity of the region passes its limit.
+fn too_large(line: u32, quantity: Quantity, limit: u32) -> Stop
+    ensures { result ≡ TooLarge Input line quantity limit }
+{
+    Stop::TooLarge {
+        file: File::Input,
+        line,
+        quantity,
+        limit: u64::from(limit),
+    }
+}
+
 // Why there is no text, where a region is refused.
 fn stop_of(refusal: Refusal) -> Stop
     ensures { result ≡ stop_at refusal.line refusal.reason }
@@ -47,13 +86,9 @@ fn stop_of(refusal: Refusal) -> Stop
         RegionReason::TagBad => Reason::TagBad,
         RegionReason::SymbolUnset => Reason::SymbolUnset,
         RegionReason::NotYet => Reason::NotYet,
+        RegionReason::Expand(reason) => return expand_stop(line, reason),
         RegionReason::TooMany(limit) => {
-            return Stop::TooLarge {
-                file: File::Input,
-                line,
-                quantity: Quantity::Items,
-                limit: u64::from(limit),
-            };
+            return too_large(line, Quantity::Items, u32::from(limit));
         }
     };
     Stop::Refused {

@@ -49,6 +49,13 @@ fn reason_text(reason: Reason) -> &'static str
         Reason::NoStart => "NoStart",
         Reason::NoEnd => "NoEnd",
         Reason::Twice => "Twice",
+        Reason::NoEndm => "NoEndm",
+        Reason::MacroTwice => "MacroTwice",
+        Reason::MacroShape => "MacroShape",
+        Reason::ArgCount => "ArgCount",
+        Reason::ParamUnknown => "ParamUnknown",
+        Reason::AliasTwice => "AliasTwice",
+        Reason::AliasUnknown => "AliasUnknown",
         Reason::TagBad => "TagBad",
         Reason::SymbolUnset => "SymbolUnset",
         Reason::NotYet => "NotYet",
@@ -89,6 +96,8 @@ fn quantity_text(quantity: Quantity) -> &'static str
     match quantity {
         Quantity::File => "file",
         Quantity::Items => "items",
+        Quantity::Depth => "depth",
+        Quantity::Expansion => "expansion",
     }
 }
 

@@ -18,6 +18,20 @@ pub enum Reason {
     NoEnd,
     /// A marker stands a second time.
     Twice,
+    /// No `.endm` ends the macro that begins here, or an expansion begins one.
+    NoEndm,
+    /// The macro is defined a second time.
+    MacroTwice,
+    /// The macro that is invoked has parameters that are no names, each another one.
+    MacroShape,
+    /// The macro that is invoked has more parameters than there are arguments, or fewer.
+    ArgCount,
+    /// A `\` in the macro that is invoked names no parameter.
+    ParamUnknown,
+    /// The alias stands for another text.
+    AliasTwice,
+    /// No such alias is in force.
+    AliasUnknown,
     /// A note on the line isn't right, or stands where it can't.
     TagBad,
     /// A name of a register is read above every instruction that writes it.
@@ -50,6 +64,10 @@ pub enum Quantity {
     File,
     /// The instructions of the region.
     Items,
+    /// How deep macros invoke one another.
+    Depth,
+    /// What the statements of an expansion add up to.
+    Expansion,
 }
 
 /// Why an input has no answer. Lines are counted from 1, and 0 stands for the whole file.

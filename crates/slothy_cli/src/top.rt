@@ -1,10 +1,10 @@
 //! The command as a whole.
 ghost use Rattle.std.specs.Prelude.{◌≡◌, ◌≤◌, ◌⊎◌, ℕ, List, map, Result, Some, None, string_bytes};
-ghost use Rattle.arm64_table.specs.Arm64.{arm64};
 ghost use Rattle.slothy_cli.specs.declared.status.Ending.{Ending as TheEnding};
 ghost use Rattle.slothy_cli.specs.declared.stop.File.{File as TheFile};
 ghost use Rattle.slothy_cli.specs.declared.stop.Stop.{Stop as TheStop};
 ghost use Rattle.slothy_cli.specs.Command.{Command as Words, HasCore, command_of};
+ghost use Rattle.slothy_cli.specs.Languages.{language_of};
 ghost use Rattle.slothy_cli.specs.Shown.{shown, shown_task};
 ghost use Rattle.slothy_cli.specs.Outcome.{command_reads, CommandAnswers};
 ghost use Rattle.slothy_cli.specs.Messages.{status_of, message_of};
@@ -17,8 +17,9 @@ use crate::status::{Ending, Status};
 use crate::work::text_of_files;
 use arm64_table::Arm64;
 use command_words::{WordsErr, read_words};
+use m4_table::M4;
 use sl_base::{Files, Gate, Sink, write_all};
-use sl_isa::Arch;
+use sl_isa::{Arch, ArchName};
 use std::alloc::Global;
 use std::thread::Threads;
 
@@ -33,8 +34,8 @@ fn deliver<O: Sink>(out: &mut O, text: &[u8]) -> Ending
     }
 }
 
-// Carries a command out.
-fn carry_out<A: Arch, F: Files, O: Sink>(
+// Carries a command out for an architecture.
+fn carry_out_for<A: Arch, F: Files, O: Sink>(
     arch: &A,
     alloc: Global,
     command: &Command<'_>,
@@ -56,6 +57,28 @@ fn carry_out<A: Arch, F: Files, O: Sink>(
     }
 }
 
+// Carries a command out.
+fn carry_out<F: Files, O: Sink>(
+    alloc: Global,
+    command: &Command<'_>,
+    files: &mut F,
+    out: &mut O,
+) -> Ending
+    requires core { HasCore (shown_task command.now.task) }
+    ensures same_files { F.holds files.new ≡ F.holds files.old }
+    ensures files_never_fall { F.faults files.old ≤ F.faults files.new }
+    ensures out_never_falls { O.faults out.old ≤ O.faults out.new }
+    ensures ends { Ends (language_of command.now.arch) (shown command.now)
+        (seen_of (shown command.now) (F.holds files.old)
+        (files_run F.faults F.given F.chosen F.broken files.old files.new))
+        (sink_run O.taken O.faults out.old out.new) result }
+{
+    match command.arch {
+        ArchName::Arm64 => carry_out_for(&Arm64, alloc, command, files, out),
+        ArchName::M4 => carry_out_for(&M4, alloc, command, files, out),
+    }
+}
+
 // Says on `err` why the words aren't carried out.
 fn refuse<E: Sink>(err: &mut E, ending: Ending) -> Ending
     ensures ending { result ≡ ending }
@@ -73,8 +96,7 @@ fn refuse<E: Sink>(err: &mut E, ending: Ending) -> Ending
 }
 
 // Carries out what words ask for, and says on `err` what went wrong.
-fn call<A: Arch, F: Files, O: Sink, E: Sink>(
-    arch: &A,
+fn call<F: Files, O: Sink, E: Sink>(
     alloc: Global,
     words: &[String],
     files: &mut F,
@@ -85,7 +107,7 @@ fn call<A: Arch, F: Files, O: Sink, E: Sink>(
     ensures files_never_fall { F.faults files.old ≤ F.faults files.new }
     ensures out_never_falls { O.faults out.old ≤ O.faults out.new }
     ensures err_never_falls { E.faults err.old ≤ E.faults err.new }
-    ensures call { Call A.language (map string_bytes words.now) (F.holds files.old)
+    ensures call { Call (map string_bytes words.now) (F.holds files.old)
         (files_run F.faults F.given F.chosen F.broken files.old files.new)
         (sink_run O.taken O.faults out.old out.new)
         (sink_run E.taken E.faults err.old err.new) result }
@@ -98,7 +120,7 @@ fn call<A: Arch, F: Files, O: Sink, E: Sink>(
     let Some(command) = command_in(&options) else {
         return refuse(err, Ending::Usage);
     };
-    let ending = carry_out(arch, alloc, &command, files, out);
+    let ending = carry_out(alloc, &command, files, out);
     report(err, command.names(), &ending);
     ending
 }
@@ -118,7 +140,7 @@ pub fn run<R: Threads + Sync, F: Files, O: Sink, E: Sink, G: Gate + Sync>(
 ) -> Status
     // The call ended in one way, with its cause, and says what the sinks took.
     ensures call { (ending : TheEnding) × (result ≡ status_of ending)
-        × Call arm64 (map string_bytes words.now) (F.holds files.old)
+        × Call (map string_bytes words.now) (F.holds files.old)
         (files_run F.faults F.given F.chosen F.broken files.old files.new)
         (sink_run O.taken O.faults out.old out.new)
         (sink_run E.taken E.faults err.old err.new) ending }
@@ -132,8 +154,8 @@ pub fn run<R: Threads + Sync, F: Files, O: Sink, E: Sink, G: Gate + Sync>(
     // faults and want of memory aside.
     ensures exact { (c : Words) (bytes : TheFile → List ℕ) (answer : Result (List ℕ) TheStop)
         → command_of (map string_bytes words.now) ≡ Some c
-        → AreTold (names_of_command c) (F.holds files.old) bytes (command_reads arm64 c)
-        → CommandAnswers arm64 c bytes answer → IsStatusOf answer result }
+        → AreTold (names_of_command c) (F.holds files.old) bytes (command_reads (language_of c.arch) c)
+        → CommandAnswers (language_of c.arch) c bytes answer → IsStatusOf answer result }
 
     // What stays, and counts of faults never fall.
     ensures same_files { F.holds files.new ≡ F.holds files.old }
@@ -141,5 +163,5 @@ pub fn run<R: Threads + Sync, F: Files, O: Sink, E: Sink, G: Gate + Sync>(
     ensures out_never_falls { O.faults out.old ≤ O.faults out.new }
     ensures err_never_falls { E.faults err.old ≤ E.faults err.new }
 {
-    call(&Arm64, alloc, words, files, out, err).status()
+    call(alloc, words, files, out, err).status()
 }

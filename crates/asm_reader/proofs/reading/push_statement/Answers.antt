@@ -1,55 +1,41 @@
-use Rattle.std.proofs.Common.{◌≡◌, List, length, ap, ◌∙◌, sym, subst}
+use Rattle.std.proofs.Common.{List, length, sym, subst}
 use Rattle.std.proofs.lemmas.Result.{err_from_is_err_and}
-use Rattle.sl_model.specs.Answers.{Refuses}
-use Rattle.sl_model.specs.Token.{Lexeme}
 use Rattle.sl_isa.specs.Symbols.{Pair}
 use Rattle.sl_isa.specs.SymbolViews.{pairs}
 use Rattle.asm_reader.specs.DraftViews.{draft_value, progress_value, Leaves}
 use Rattle.asm_reader.specs.NoteViews.{said_value}
-use Rattle.asm_reader.specs.Statements.{Statement, words_of}
-use Rattle.asm_reader.specs.Views.{lexemes, statement_value, refusal_of}
+use Rattle.asm_reader.specs.Statements.{Statement}
+use Rattle.asm_reader.specs.Views.{statement_value}
 use Rattle.asm_reader.specs.Reading as spec
 use Rattle.asm_reader.proofs.Answered.{few_names}
 use Rattle.asm_reader.proofs.Steps.{words_fail, note_fails, parts_left}
-use Rattle.asm_reader.proofs.Tokens.{words_filtered}
 use Rattle.asm_reader.proofs.reading.push_statement.Goals as goal
 
 pub returns-in_err-instr-clause-answer : goal.returns-in_err-instr-clause-answer
 returns-in_err-instr-clause-answer g c =
-    let p = err_from_is_err_and c.from_residual-in_err-instr.result c.from_residual-in_err-instr.ensures.1 in
-    let language = g.A.Arch.language in
+    let p = err_from_is_err_and c.from_residual.result c.from_residual.ensures.1 in
     let statement : Statement = statement_value c.args.statement in
-    let failure = c.in_err-instr.field-0.0 in
-    let read = progress_value c.args.read.now in
-    let words : lexemes c.deref.result.now ≡ words_of statement.tokens = ap lexemes (c.deref.ensures.value ∙ c.in_ok-words.ensures) ∙ words_filtered c.args.statement.tokens.now in
     rw (p.1, p.2)
-    (words_fail language c.args.manner.wants read statement failure
-    (subst (λ (ws : List Lexeme). Refuses (refusal_of failure) (spec.instr_of language read.pairs statement.line ws)) words c.in_err-instr.ensures.answer))
+    (words_fail g.A.Arch.language c.args.manner.wants (progress_value c.args.read.now) statement c.in_err-instr.field-0.0 c.in_err-instr.ensures.answer)
 
 pub returns-in_err-said-clause-answer : goal.returns-in_err-said-clause-answer
 returns-in_err-said-clause-answer g c =
     let p = err_from_is_err_and c.from_residual-in_err-said.result c.from_residual-in_err-said.ensures.1 in
-    let language = g.A.Arch.language in
     let statement : Statement = statement_value c.args.statement in
-    let failure = c.in_err-said.field-0.0 in
-    let read = progress_value c.args.read.now in
-    let words : lexemes c.deref.result.now ≡ words_of statement.tokens = ap lexemes (c.deref.ensures.value ∙ c.in_ok-words.ensures) ∙ words_filtered c.args.statement.tokens.now in
     rw (p.1, p.2)
-    (note_fails language c.args.manner.wants read statement c.in_ok-instr.instr failure
-    (ap (spec.instr_of language read.pairs statement.line) (sym words) ∙ c.in_ok-instr.ensures.answer) c.in_err-said.ensures)
+    (note_fails g.A.Arch.language c.args.manner.wants (progress_value c.args.read.now) statement c.in_ok-instr.instr c.in_err-said.field-0.0
+    c.in_ok-instr.ensures.answer c.in_err-said.ensures)
 
 pub returns-clause-answer : goal.returns-clause-answer
 returns-clause-answer g c =
     let language = g.A.Arch.language in
     let statement : Statement = statement_value c.args.statement in
     let read = progress_value c.args.read.now in
-    let words : lexemes c.deref.result.now ≡ words_of statement.tokens = ap lexemes (c.deref.ensures.value ∙ c.in_ok-words.ensures) ∙ words_filtered c.args.statement.tokens.now in
     let new = draft_value c.push_parts.new.draft in
     subst (λ (ps : List Pair). Leaves c.push_parts.result (record { draft = new; pairs = ps }) (spec.with_statement language c.args.manner.wants read statement))
-    (ap (spec.pairs_after language read.pairs) (sym words) ∙ sym c.in_ok-instr.ensures.names)
+    (sym c.in_ok-instr.ensures.names)
     (parts_left language c.args.manner.wants read statement c.in_ok-instr.instr (said_value c.in_ok-said.said) new
-    (ap (spec.instr_of language read.pairs statement.line) (sym words) ∙ c.in_ok-instr.ensures.answer) c.in_ok-said.ensures
-    c.push_parts.result c.push_parts.ensures)
+    c.in_ok-instr.ensures.answer c.in_ok-said.ensures c.push_parts.result c.push_parts.ensures)
 
 pub returns-clause-few : goal.returns-clause-few
 returns-clause-few g c =

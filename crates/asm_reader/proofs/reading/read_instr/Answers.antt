@@ -4,7 +4,7 @@ use Rattle.sl_isa.specs.Symbols.{Pair}
 use Rattle.sl_isa.specs.SymbolViews.{pairs}
 use Rattle.sl_isa.specs.Language.{pairs_behind}
 use Rattle.sl_isa.proofs.ForCallers.{have_pairs-with}
-use Rattle.asm_reader.specs.Views.{lexemes}
+use Rattle.macro_expand.specs.Spelled.{lexemes}
 use Rattle.asm_reader.proofs.reading.read_instr.Goals as goal
 
 pub returns-in-Ok-clause-valid : goal.returns-in-Ok-clause-valid

@@ -8,4 +8,4 @@ use Rattle.asm_reader.proofs.region.read_region.Goals as goal
 pub returns-clause-right : goal.returns-clause-right
 returns-clause-right g c =
     subst (IsRegion g.A.Arch.language c.args.wants) (sym c.region_from.ensures)
-    (is_region g.A.Arch.language g.met.A.Arch.lawful c.args.wants (parts_of c.in_ok-cut-2.cut) _ _ _ (progress_value c.in_ok-read.read) c.in_ok-read.ensures)
+    (is_region g.A.Arch.language g.met.A.Arch.lawful c.args.wants (parts_of c.in_ok-cut.cut) _ (progress_value c.in_ok-read.read) c.in_ok-read.ensures)

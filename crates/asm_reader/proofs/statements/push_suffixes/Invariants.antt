@@ -1,7 +1,7 @@
 use Rattle.std.proofs.Common.{◌≡◌, ◌++◌, length}
 use Rattle.sl_text.specs.Tokens.{token_value}
 use Rattle.asm_reader.specs.Statements.{suffixes}
-use Rattle.asm_reader.specs.Views.{lexemes}
+use Rattle.macro_expand.specs.Spelled.{lexemes}
 use Rattle.asm_reader.proofs.statements.push_suffixes.Given as goal
 
 -- the name so far, and the suffixes that are left, are all of it

@@ -1,0 +1,9 @@
+pub mod AliasLemmas
+pub mod BaredLemmas
+pub mod CycleLemmas
+pub mod FilledLemmas
+pub mod KeptLemmas
+pub mod PartLemmas
+pub mod ReadingLemmas
+pub mod RowLemmas
+pub mod WordLemmas

@@ -1,0 +1,9 @@
+use Rattle.std.proofs.Common.{ap, None}
+use Rattle.macro_expand.specs.Views.{known_of}
+use Rattle.macro_expand.proofs.AliasLemmas.{names-after}
+use Rattle.macro_expand.proofs.expansion.end_alias.Goals as goal
+
+pub returns : goal.returns
+returns c =
+    ap (λ a. record (known_of c.args.known.now) { aliases = a })
+    (names-after c.args.name.now c.args.known.now.aliases c.swap_remove.new.self None c.swap_remove.ensures.updates)

@@ -1,0 +1,7 @@
+pub mod Expansion
+pub mod Region
+pub mod Filled
+pub mod Source
+pub mod Spelled
+pub mod Words
+pub mod Views

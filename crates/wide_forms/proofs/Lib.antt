@@ -1,0 +1,3 @@
+pub mod WideWords
+pub mod WideLanguage
+pub mod ForCallers
