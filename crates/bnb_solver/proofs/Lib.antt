@@ -1,3 +1,6 @@
-pub mod Solutions
 pub mod Prefixes
-pub mod Fewest
+pub mod Progress
+pub mod Tellings
+pub mod OneTree
+pub mod Numbered
+pub mod Verdicts

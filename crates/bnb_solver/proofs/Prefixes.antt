@@ -1,18 +1,16 @@
 -- Choices made so far, counted.
 use Rattle.std.proofs.Common.{◌≡◌, ℕ, suc, ◌+◌, ◌-◌, ◌<◌, ◌≤◌, true, false, eqb, nat_lt, List, [], ◌∷◌, ◌++◌, reverse, length, Option, Some, None, ⊎_elim, refl, sym, ap, ◌∙◌, subst, arith}
 use Rattle.std.specs.List.{list_all}
-use Rattle.std.proofs.lemmas.List.{append-nil, length-reverse, length_push, reverse-append, reverse-reverse}
+use Rattle.std.proofs.lemmas.List.{append-nil, length-reverse, reverse-append, reverse-reverse}
 use Rattle.std.proofs.lemmas.Bool.{cases_Bool, and_from, lt-ltb, both_ways, eq-eqb, ne_eqb}
 use Rattle.sl_model.specs.declared.schedule.Choice.{Choice}
 use Rattle.sl_model.specs.Body.{is_full}
 use Rattle.sl_model.specs.Legal.{Problem, IsLegalNext, IsLegalFrom}
 use Rattle.search_space.specs.Searchable.{IsSearchable, AreMade}
-use Rattle.search_space.specs.Next.{next_behind, rest_behind}
+use Rattle.search_space.specs.Next.{next_behind}
 use Rattle.search_space.specs.Bound.{bound}
-use Rattle.search_space.proofs.ForCallers.{made-few, full-length, length-full, next_behind-some, rest_behind-more, reverse-full, known-item, legal-unit}
+use Rattle.search_space.proofs.ForCallers.{made-few, full-length, length-full, reverse-full, reverse-more, known-item, legal-unit}
 use Rattle.bnb_solver.specs.Prefix.{Prefix}
-use Rattle.bnb_solver.specs.Solutions.{first_solution}
-use Rattle.bnb_solver.proofs.Solutions.{made-legal, first_among, solution-full, solution-more, solution-past, behind-none, behind-found, behind-past}
 
 -- one more choice, turned round
 pub reverse-last : (choices : List Choice) (c : Choice) → reverse (choices ++ c ∷ []) ≡ c ∷ reverse choices
@@ -37,11 +35,11 @@ pub popped : (was more back now : Prefix) (c : Choice) → more ≡ record was {
 popped was more back now c is same undone =
     undone was.choices c (ap (λ p. p.choices) (same ∙ is)) ∙ ap {A = Prefix} {B = Prefix} (λ p. record p { choices = was.choices }) (same ∙ is)
 
--- The first solution that goes on from choices is the first that goes on by a choice behind another.
-abbrev pub GoesBehind : Problem → ℕ → List Choice → Option Choice → Type 0
-GoesBehind problem level choices after =
-    first_solution problem level (length problem.graph.items - length choices) (reverse choices)
-    ≡ first_among problem level (length problem.graph.items - length choices - 1) (reverse choices) (rest_behind problem (reverse choices) after)
+-- choices that were made, turned round, are legal
+pub made-legal : (problem : Problem) (done rest : List Choice) → AreMade problem done → IsLegalFrom problem done rest → IsLegalFrom problem [] (reverse done ++ rest)
+made-legal problem [] rest made legal = legal
+made-legal problem (c ∷ done) rest made legal =
+    subst (IsLegalFrom problem []) (sym (reverse-more done rest c)) (made-legal problem done (c ∷ rest) made.1 (made.0, legal))
 
 module _ (problem : Problem) (search : IsSearchable problem) where
   -- All items are placed where there are as many choices as items, and only there.
@@ -72,7 +70,7 @@ module _ (problem : Problem) (search : IsSearchable problem) where
       and_from (nat_lt c.unit 16) (list_all (λ d. nat_lt d.unit 16) choices) (lt-ltb c.unit 16 (legal-unit problem search done c legal.0)) (legal-units (c ∷ done) choices legal.1)
 
   -- those that were made are
-  made-in_order : (choices : List Choice) → AreMade problem (reverse choices) → IsLegalFrom problem [] choices
+  pub made-in_order : (choices : List Choice) → AreMade problem (reverse choices) → IsLegalFrom problem [] choices
   made-in_order choices made =
       subst (IsLegalFrom problem []) (reverse-reverse choices) (subst (IsLegalFrom problem []) (append-nil (reverse (reverse choices))) (made-legal problem (reverse choices) [] made tt))
 
@@ -97,68 +95,3 @@ module _ (problem : Problem) (search : IsSearchable problem) where
       let other : length (reverse choices) ≡ length problem.graph.items → ⊥ =
       (λ all. both_ways (is_full problem.graph.order choices) lacks (sym (reverse-full problem.graph.order choices) ∙ length-full problem search (reverse choices) made all)) in
       omega arith
-
-  -- ---- the first solution that goes on from a prefix
-
-  module _ (level : ℕ) (choices : List Choice) (made : AreMade problem (reverse choices)) where
-    -- of a full one it is the prefix
-    pub prefix-full : is_full problem.graph.order choices ≡ true → bound problem (reverse choices) ≤ level
-        → first_solution problem level (length problem.graph.items - length choices) (reverse choices) ≡ Some choices
-    prefix-full full within =
-        solution-full problem search level (length problem.graph.items - length choices) (reverse choices) made (reverse-full problem.graph.order choices ∙ full) within
-        ∙ ap Some (reverse-reverse choices)
-
-    -- and else one that goes on by a next choice
-    pub prefix-more : is_full problem.graph.order choices ≡ false → bound problem (reverse choices) ≤ level → GoesBehind problem level choices None
-    prefix-more lacks within =
-        let fewer : length choices < length problem.graph.items = lacks-fewer choices made lacks in
-        let more : length problem.graph.items - length choices ≡ suc (length problem.graph.items - length choices - 1) = omega arith in
-        ap (λ n. first_solution problem level n (reverse choices)) more
-        ∙ solution-more problem search level (length problem.graph.items - length choices - 1) (reverse choices) (reverse-full problem.graph.order choices ∙ lacks) within
-
-    -- Without a next choice there is none.
-    pub goes-end : (after : Option Choice) → GoesBehind problem level choices after → next_behind problem (reverse choices) after ≡ None
-        → first_solution problem level (length problem.graph.items - length choices) (reverse choices) ≡ None
-    goes-end after goes none = goes ∙ behind-none problem search level (length problem.graph.items - length choices - 1) (reverse choices) after none
-
-    -- With a next choice, those that may come behind it are fewer.
-    pub rest-shorter : (after : Option Choice) (c : Choice) → next_behind problem (reverse choices) after ≡ Some c
-        → length (rest_behind problem (reverse choices) (Some c)) < length (rest_behind problem (reverse choices) after)
-    rest-shorter after c next =
-        let more : length (rest_behind problem (reverse choices) after) ≡ suc (length (rest_behind problem (reverse choices) (Some c))) =
-        ap length (rest_behind-more problem search (reverse choices) after c next) in
-        omega arith
-
-    module _ (after : Option Choice) (c : Choice) (next : next_behind problem (reverse choices) after ≡ Some c) where
-      -- the next choice is legal
-      pub next-legal : IsLegalNext problem (reverse choices) c
-      next-legal = (next_behind-some problem search (reverse choices) after c next).legal
-
-      -- the choices with one more, counted and turned round
-      more-first : (now : List Choice) → now ≡ choices ++ c ∷ []
-          → first_solution problem level (length problem.graph.items - length choices - 1) (c ∷ reverse choices)
-          ≡ first_solution problem level (length problem.graph.items - length now) (reverse now)
-      more-first now is =
-          let long : length now ≡ length choices + 1 = ap length is ∙ length_push choices c in
-          let more : length problem.graph.items - length choices - 1 ≡ length problem.graph.items - length now = omega arith in
-          ap (λ n. first_solution problem level n (c ∷ reverse choices)) more
-          ∙ ap (first_solution problem level (length problem.graph.items - length now)) (sym (ap reverse is ∙ reverse-last choices c))
-
-      -- What goes on with it is the first of all that go on,
-      pub goes-found : (now x : List Choice) → GoesBehind problem level choices after → now ≡ choices ++ c ∷ []
-          → first_solution problem level (length problem.graph.items - length now) (reverse now) ≡ Some x
-          → first_solution problem level (length problem.graph.items - length choices) (reverse choices) ≡ Some x
-      goes-found now x goes is found =
-          goes ∙ behind-found problem search level (length problem.graph.items - length choices - 1) (reverse choices) after c x next (more-first now is ∙ found)
-
-      -- and where nothing does it is behind it,
-      pub goes-on : (now : List Choice) → GoesBehind problem level choices after → now ≡ choices ++ c ∷ []
-          → first_solution problem level (length problem.graph.items - length now) (reverse now) ≡ None → GoesBehind problem level choices (Some c)
-      goes-on now goes is none =
-          goes ∙ behind-past problem search level (length problem.graph.items - length choices - 1) (reverse choices) after c next (more-first now is ∙ none)
-
-      -- as where the bound is above the level.
-      pub goes-past : GoesBehind problem level choices after → level < bound problem (c ∷ reverse choices) → GoesBehind problem level choices (Some c)
-      goes-past goes past =
-          let more = length problem.graph.items - length choices - 1 in
-          goes ∙ behind-past problem search level more (reverse choices) after c next (solution-past problem search level more (c ∷ reverse choices) (next-legal, made) past)

@@ -1,2 +1,5 @@
 pub mod Prefix
-pub mod Solutions
+pub mod Work
+pub mod Telling
+pub mod Straight
+pub mod Solved

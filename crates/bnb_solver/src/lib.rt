@@ -1,9 +1,17 @@
 //! The search of a problem's best schedule.
 #![tactic(auto)]
 
-pub use best::best_schedule;
 pub use prefix::Prefix;
+pub use race_pool::{Outcome, Stop};
+pub use refusal::{ForestErr, TREES};
+pub use searching::search;
+pub use solving::{Solution, solve};
+pub use straight::StraightForest;
+pub use work::Work;
 
-mod best;
 mod prefix;
-mod search;
+mod refusal;
+mod searching;
+mod solving;
+mod straight;
+mod work;

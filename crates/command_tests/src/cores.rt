@@ -30,6 +30,16 @@ slothy_end:
 |~
 no stall allowed|opt k.s --core=s.txt --max-stalls=0|=|=|1||slothy: infeasible up to 0 stalls
 ~
+a budget that suffices|opt k.s --core s.txt --budget 4|=|=|0|slothy_start:
+        // @slothy:region v=1 kind=straight n=4 cycles=5 stalls=1
+        ldr x1, [x0] // @slothy:i=0 u=load c=0 line=2
+        ldr x4, [x0, #8] // @slothy:i=2 u=load c=1 line=4
+        add x2, x1, x3 // @slothy:i=1 u=alu c=3 line=3
+        add x5, x4, x3 // @slothy:i=3 u=alu c=4 line=5
+slothy_end:
+|~
+a budget that is too small|opt k.s --core s.txt --budget 3|=|=|4||slothy: budget: level=1 tree=0
+~
 an empty region|=|slothy_start:
 slothy_end:
 |=|0|slothy_start:

@@ -141,6 +141,20 @@ a register written twice above a bad line|=|slothy_start:
 slothy_end:
 ||3||slothy: k.s:4: refused: UnknownMnemonic
 ~
+one list, which is the schedule|opt k.s --core one:1 --budget 1|slothy_start:
+        add x1, x2, x3
+slothy_end:
+||0|slothy_start:
+        // @slothy:region v=1 kind=straight n=1 cycles=1 stalls=0
+        add x1, x2, x3 // @slothy:i=0 u=u c=0 line=2
+slothy_end:
+|~
+one list, and the schedule is the second|opt k.s --core one:1 --budget 1|slothy_start:
+        add x1, x2, x3
+        add x4, x2, x3
+slothy_end:
+||4||slothy: budget: level=0 tree=0
+~
 no stall is allowed|opt k.s --core one:2 --max-stalls 0|slothy_start:
         add x2, x1, x0
         add x3, x2, x2
@@ -250,78 +264,75 @@ fn opt_writes_the_best_schedule(rt: HostRuntime) -> Failing {
     failing
 }
 
-/// A region of so many items, each of which reads the one above it.
-fn chain_of(alloc: Global, count: u32, back: &str) -> Result<String, AllocError> {
+/// A region of so many stores, each to bytes of its own.
+fn stores_of(alloc: Global, count: u32, back: &str) -> Result<String, AllocError> {
     let mut text = String::from_str(alloc, "slothy_start:\n")?;
     for item in 0..count {
-        let out = item.saturating_add(1);
-        write!(text, "        add x{out}, x{item}, x{item}\n")?;
+        let place = item.saturating_add(1).saturating_mul(8);
+        write!(text, "        str x1, [x0, #{place}]\n")?;
     }
     text.push_str(back)?;
     text.push_str("slothy_end:\n")?;
     Ok(text)
 }
 
-/// The same, as it is written at latency 2.
-fn written_chain(alloc: Global, count: u32) -> Result<String, AllocError> {
-    let stalls = count.saturating_sub(1);
-    let cycles = count.saturating_add(stalls);
+/// The same, as it is written: since each may touch what another stores, they stay in their order.
+fn written_stores(alloc: Global, count: u32) -> Result<String, AllocError> {
     let mut text = String::from_str(alloc, "0|slothy_start:\n")?;
     write!(
         text,
-        "        // @slothy:region v=1 kind=straight n={count} cycles={cycles} stalls={stalls}\n"
+        "        // @slothy:region v=1 kind=straight n={count} cycles={count} stalls=0\n"
     )?;
     for item in 0..count {
-        let (out, cycle, line) = (
-            item.saturating_add(1),
-            item.saturating_mul(2),
+        let (place, line) = (
+            item.saturating_add(1).saturating_mul(8),
             item.saturating_add(2),
         );
         write!(
             text,
-            "        add x{out}, x{item}, x{item} // @slothy:i={item} u=u c={cycle} line={line}\n"
+            "        str x1, [x0, #{place}] // @slothy:i={item} u=u c={item} line={line}\n"
         )?;
     }
     text.push_str("slothy_end:\n|")?;
     Ok(text)
 }
 
-/// What `opt` answers to a chain.
+/// What `opt` answers to stores.
 fn answer_of<R: Threads + Sync>(
     rt: &R,
     alloc: Global,
     count: u32,
     back: &str,
 ) -> Result<String, AllocError> {
-    let text = chain_of(alloc, count, back)?;
+    let text = stores_of(alloc, count, back)?;
     answer_to(rt, alloc, OPT.words, text.as_bytes(), b"", NONE)
 }
 
-/// Is a chain written as it should be?
+/// Are stores written as they should be?
 fn is_written<R: Threads + Sync>(rt: &R, alloc: Global, count: u32) -> Result<bool, AllocError> {
     let found = answer_of(rt, alloc, count, "")?;
-    Ok(found.as_str() == written_chain(alloc, count)?.as_str())
+    Ok(found.as_str() == written_stores(alloc, count)?.as_str())
 }
 
-// With memory at hand each region of at most 8 items is written.
+// With memory at hand each region of at most 64 items is written.
 #[test]
-fn eight_items_are_the_limit_of_opt(rt: HostRuntime) -> Failing {
+fn sixty_four_items_are_the_limit_of_opt(rt: HostRuntime) -> Failing {
     let mut failing = Failing::new(rt.alloc());
-    for count in 0..9u32 {
+    for count in &[0, 1, 8, 9, 33, 64] {
         failing.check_number(
-            count as usize,
-            is_written(&rt, rt.alloc(), count) == Ok(true),
+            *count as usize,
+            is_written(&rt, rt.alloc(), *count) == Ok(true),
         );
     }
     failing.compare(
-        "nine items",
-        answer_of(&rt, rt.alloc(), 8, "        add x1, x0, x0\n"),
-        "9||slothy: k.s:10: too large: items limit=8\n",
+        "65 items",
+        answer_of(&rt, rt.alloc(), 64, "        add x1, x0, x0\n"),
+        "9||slothy: k.s:66: too large: items limit=64\n",
     );
     failing.compare(
         "a bad line",
-        answer_of(&rt, rt.alloc(), 8, "        nop\n"),
-        "3||slothy: k.s:10: refused: UnknownMnemonic\n",
+        answer_of(&rt, rt.alloc(), 64, "        nop\n"),
+        "3||slothy: k.s:66: refused: UnknownMnemonic\n",
     );
     failing
 }

@@ -40,6 +40,9 @@ opt k.s --core one:2 --free x5,x6,x5|opt k.s core=one:2 free=( x5 x6)
 opt k.s --core one:2 --max-stalls 0|opt k.s core=one:2 most=0
 opt k.s --core one:2 --max-stalls 64|opt k.s core=one:2
 opt k.s --core one:2 --max-stalls=255|opt k.s core=one:2 most=255
+opt k.s --core one:2 --budget 1|opt k.s core=one:2 budget=1
+opt k.s --core one:2 --budget 1000000|opt k.s core=one:2
+opt k.s --core one:2 --budget=1000000000|opt k.s core=one:2 budget=1000000000
 run k.s --state s.txt|run k.s state=s.txt
 run k.s --state s.txt --turns 0|run k.s state=s.txt turns=0
 run --turns=10000000 --state=-s -- k.s|run k.s state=-s turns=10000000
@@ -81,7 +84,12 @@ cost -x --core one:2
 cost k.s --core one:2 --new n.s
 opt k.s --core one:2 --new n.s
 opt k.s --core one:2 --budget 007
-opt k.s --core one:2 --budget 7
+opt k.s --core one:2 --budget 0
+opt k.s --core one:2 --budget 1000000001
+opt k.s --core one:2 --budget=
+opt k.s --core one:2 --budget 7 --budget 7
+cost k.s --core one:2 --budget 7
+run k.s --state s.txt --budget 7
 opt k.s --core one:2 --workers 1
 opt k.s --core one:2 --key 1
 opt k.s --core one:2 --count 1
@@ -253,9 +261,13 @@ fn push_region(text: &mut String, options: &Options) -> Result<(), AllocError> {
 /// Adds the state and the numbers that aren't the usual ones.
 fn push_numbers(text: &mut String, options: &Options) -> Result<(), AllocError> {
     let most = options.most;
+    let budget = options.budget;
     let turns = options.turns;
     if most != 64 {
         write!(text, " most={most}")?;
+    }
+    if budget != 1000000 {
+        write!(text, " budget={budget}")?;
     }
     if let Some(state) = &options.state {
         text.push_str(" state=")?;

@@ -13,7 +13,7 @@ use Rattle.sl_model.specs.Digits.{decimal_number}
 use Rattle.command_words.specs.declared.options.Mode.{Mode}
 use Rattle.command_words.specs.declared.options.Mode.TheVariants.{Cost, Opt, Run}
 use Rattle.command_words.specs.declared.options.CoreWord.{CoreWord}
-use Rattle.command_words.specs.declared.options.TheConstants.{LATENCY, MOST_STALLS, TURNS_UNSAID}
+use Rattle.command_words.specs.declared.options.TheConstants.{LATENCY, MOST_STALLS, TURNS_UNSAID, MOST_BUDGET, BUDGET_UNSAID}
 use Rattle.command_words.specs.Answer.{WrongUse, wrong_use}
 use Rattle.command_words.specs.Command.{within, number_in, number_or, file_name, plain_core, file_core, core_named, core_of, state_of, input_of, is_label, is_label_byte, label_or, two_labels, labels_of, live_of, free_of, mode_by, mode_of, architecture, suited, files_by, registers_by, numbers_by, options_of, register_set}
 use Rattle.command_words.specs.Table.{Text, suits, option_lines}
@@ -37,11 +37,11 @@ unfolding number_in
 number-between least most word = within-between least most (decimal_number word)
 
 -- a number that is said or not
-number-most : (unsaid most : ℕ) (word : Option Text) → unsaid ≤ most → IfOk (number_or unsaid most word) (λ n. n ≤ most)
-number-most unsaid most None le = le
-number-most unsaid most (Some word) le = second (number_in 0 most word) (number-between 0 most word)
+number-most : (least unsaid most : ℕ) (word : Option Text) → unsaid ≤ most → IfOk (number_or least unsaid most word) (λ n. n ≤ most)
+number-most least unsaid most None le = le
+number-most least unsaid most (Some word) le = second (number_in least most word) (number-between least most word)
   where
-    second : (r : Result ℕ WrongUse) → IfOk r (IsBetween 0 most) → IfOk r (λ n. n ≤ most)
+    second : (r : Result ℕ WrongUse) → IfOk r (IsBetween least most) → IfOk r (λ n. n ≤ most)
     second (Ok n) h = h.1
     second (Err e) h = tt
 
@@ -130,26 +130,26 @@ before a b e = (and_parts a b e).0
 behind : (a b : Bool) → (a && b) ≡ true → b ≡ true
 behind a b e = (and_parts a b e).1
 
-cost-needs : (core live free stalls state turns : Bool) → (core && (not live && (not free && (not stalls && (not state && (not turns && true)))))) ≡ true → (core ≡ true) × (state ≡ false)
-cost-needs core live free stalls state turns e = (
+cost-needs : (core live free stalls budget state turns : Bool) → (core && (not live && (not free && (not stalls && (not budget && (not state && (not turns && true))))))) ≡ true → (core ≡ true) × (state ≡ false)
+cost-needs core live free stalls budget state turns e = (
   before core _ e,
-  not-true state (before (not state) _ (behind (not stalls) _ (behind (not free) _ (behind (not live) _ (behind core _ e))))),
+  not-true state (before (not state) _ (behind (not budget) _ (behind (not stalls) _ (behind (not free) _ (behind (not live) _ (behind core _ e)))))),
 )
 
 opt-needs : (core state turns : Bool) → (core && (not state && (not turns && true))) ≡ true → (core ≡ true) × (state ≡ false)
 opt-needs core state turns e = (before core _ e, not-true state (before (not state) _ (behind core _ e)))
 
-run-needs : (core live free stalls state : Bool) → (not core && (not live && (not free && (not stalls && (state && true))))) ≡ true → (core ≡ false) × (state ≡ true)
-run-needs core live free stalls state e = (
+run-needs : (core live free stalls budget state : Bool) → (not core && (not live && (not free && (not stalls && (not budget && (state && true)))))) ≡ true → (core ≡ false) × (state ≡ true)
+run-needs core live free stalls budget state e = (
   not-true core (before (not core) _ e),
-  before state _ (behind (not stalls) _ (behind (not free) _ (behind (not live) _ (behind (not core) _ e)))),
+  before state _ (behind (not budget) _ (behind (not stalls) _ (behind (not free) _ (behind (not live) _ (behind (not core) _ e))))),
 )
 
 needs-met : (look : Text → Option Text) (mode : Mode) → suits mode look ≡ true → HasNeeds look mode
 unfolding suits option_lines
-needs-met look Cost e = cost-needs (is_some (look (codes "core"))) (is_some (look (codes "live"))) (is_some (look (codes "free"))) (is_some (look (codes "max-stalls"))) (is_some (look (codes "state"))) (is_some (look (codes "turns"))) e
+needs-met look Cost e = cost-needs (is_some (look (codes "core"))) (is_some (look (codes "live"))) (is_some (look (codes "free"))) (is_some (look (codes "max-stalls"))) (is_some (look (codes "budget"))) (is_some (look (codes "state"))) (is_some (look (codes "turns"))) e
 needs-met look Opt e = opt-needs (is_some (look (codes "core"))) (is_some (look (codes "state"))) (is_some (look (codes "turns"))) e
-needs-met look Run e = run-needs (is_some (look (codes "core"))) (is_some (look (codes "live"))) (is_some (look (codes "free"))) (is_some (look (codes "max-stalls"))) (is_some (look (codes "state"))) e
+needs-met look Run e = run-needs (is_some (look (codes "core"))) (is_some (look (codes "live"))) (is_some (look (codes "free"))) (is_some (look (codes "max-stalls"))) (is_some (look (codes "budget"))) (is_some (look (codes "state"))) e
 
 mode-needs : (look : Text → Option Text) → IfOk (mode_by look) (HasNeeds look)
 unfolding mode_by suited
@@ -179,15 +179,16 @@ registers-whole arch look =
     step (λ (live : Option RegSet). IfSome live IsListedSet) AreSets (live_of arch (look (codes "live"))) _ (live-listed arch (look (codes "live")))
     (λ live is. step IsListedSet AreSets (free_of arch (look (codes "free"))) _ (free-listed arch (look (codes "free"))) (λ free of. (is, of)))
 
-abbrev AreNumbers : ℕ × ℕ → Type 0
-AreNumbers numbers = (numbers.0 ≤ MOST_STALLS) × (numbers.1 ≤ TURNS)
+abbrev AreNumbers : ℕ × ℕ × ℕ → Type 0
+AreNumbers numbers = (numbers.0 ≤ MOST_STALLS) × (numbers.1 ≤ MOST_BUDGET) × (numbers.2 ≤ TURNS)
 
 numbers-whole : (look : Text → Option Text) → IfOk (numbers_by look) AreNumbers
 unfolding numbers_by
 numbers-whole look =
-    step (λ (n : ℕ). n ≤ MOST_STALLS) AreNumbers (number_or STALLS MOST_STALLS (look (codes "max-stalls"))) _ (number-most STALLS MOST_STALLS (look (codes "max-stalls")) (omega arith))
-    (λ stalls few. step (λ (n : ℕ). n ≤ TURNS) AreNumbers (number_or TURNS_UNSAID TURNS (look (codes "turns"))) _ (number-most TURNS_UNSAID TURNS (look (codes "turns")) (omega arith))
-    (λ turns less. (few, less)))
+    step (λ (n : ℕ). n ≤ MOST_STALLS) AreNumbers (number_or 0 STALLS MOST_STALLS (look (codes "max-stalls"))) _ (number-most 0 STALLS MOST_STALLS (look (codes "max-stalls")) (omega arith))
+    (λ stalls few. step (λ (n : ℕ). n ≤ MOST_BUDGET) AreNumbers (number_or 1 BUDGET_UNSAID MOST_BUDGET (look (codes "budget"))) _ (number-most 1 BUDGET_UNSAID MOST_BUDGET (look (codes "budget")) (omega arith))
+    (λ budget some. step (λ (n : ℕ). n ≤ TURNS) AreNumbers (number_or 0 TURNS_UNSAID TURNS (look (codes "turns"))) _ (number-most 0 TURNS_UNSAID TURNS (look (codes "turns")) (omega arith))
+    (λ turns less. (few, some, less))))
 
 -- what is asked for is whole
 pub options-whole : (look : Text → Option Text) → IfOk (options_of look) IsWhole
@@ -211,5 +212,6 @@ options-whole look =
       live = listed.0;
       free = listed.1;
       most = few.0;
-      turns = few.1;
+      budget = few.1;
+      turns = few.2;
     }))))))

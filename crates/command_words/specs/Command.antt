@@ -20,7 +20,7 @@ use Rattle.command_words.specs.declared.options.Mode.TheVariants.{Cost, Opt, Run
 use Rattle.command_words.specs.declared.options.CoreWord.{CoreWord}
 use Rattle.command_words.specs.declared.options.CoreWord.TheVariants.{Plain, File}
 use Rattle.command_words.specs.declared.options.Options.{Options}
-use Rattle.command_words.specs.declared.options.TheConstants.{LATENCY, MOST_STALLS, TURNS_UNSAID}
+use Rattle.command_words.specs.declared.options.TheConstants.{LATENCY, MOST_STALLS, MOST_BUDGET, BUDGET_UNSAID, TURNS_UNSAID}
 use Rattle.command_words.specs.Answer.{WrongUse, wrong_use}
 use Rattle.command_words.specs.Saying.{said_by}
 use Rattle.command_words.specs.Table.{Text, suits}
@@ -38,9 +38,9 @@ unfoldable pub number_in : ℕ → ℕ → Text → Result ℕ WrongUse
 number_in least most word = within least most (decimal_number word)
 
 -- the same, or another number where nothing is said
-abbrev pub number_or : ℕ → ℕ → Option Text → Result ℕ WrongUse
-number_or unsaid most None = Ok unsaid
-number_or unsaid most (Some word) = number_in 0 most word
+abbrev pub number_or : ℕ → ℕ → ℕ → Option Text → Result ℕ WrongUse
+number_or least unsaid most None = Ok unsaid
+number_or least unsaid most (Some word) = number_in least most word
 
 -- the name of a file: neither empty nor `-`
 unfoldable pub file_name : Text → Result Text WrongUse
@@ -216,12 +216,13 @@ registers_by arch look = do
   free ← free_of arch (look (codes "free"))
   Ok (live, free)
 
--- the numbers: the most stalls, and the most turns
-unfoldable pub numbers_by : (Text → Option Text) → Result (ℕ × ℕ) WrongUse
+-- the numbers: the most stalls, the budget, and the most turns
+unfoldable pub numbers_by : (Text → Option Text) → Result (ℕ × ℕ × ℕ) WrongUse
 numbers_by look = do
-  stalls ← number_or STALLS MOST_STALLS (look (codes "max-stalls"))
-  turns ← number_or TURNS_UNSAID TURNS (look (codes "turns"))
-  Ok (stalls, turns)
+  stalls ← number_or 0 STALLS MOST_STALLS (look (codes "max-stalls"))
+  budget ← number_or 1 BUDGET_UNSAID MOST_BUDGET (look (codes "budget"))
+  turns ← number_or 0 TURNS_UNSAID TURNS (look (codes "turns"))
+  Ok (stalls, budget, turns)
 
 -- what is asked for by what is said of each name
 unfoldable pub options_of : (Text → Option Text) → Result Options WrongUse
@@ -242,8 +243,9 @@ options_of look = do
     live = registers.0;
     free = registers.1;
     most = numbers.0;
+    budget = numbers.1;
     state = files.2;
-    turns = numbers.1;
+    turns = numbers.2;
   })
 
 -- what a command's words ask for, or wrong use

@@ -31,6 +31,7 @@ option_lines =
     ∷ line (codes "live") Refused Taken Refused
     ∷ line (codes "free") Refused Taken Refused
     ∷ line (codes "max-stalls") Refused Taken Refused
+    ∷ line (codes "budget") Refused Taken Refused
     ∷ line (codes "state") Refused Refused Required
     ∷ line (codes "turns") Refused Refused Taken
     ∷ []

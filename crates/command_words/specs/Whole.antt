@@ -11,7 +11,7 @@ use Rattle.command_words.specs.declared.options.Mode.TheVariants.{Cost, Opt, Run
 use Rattle.command_words.specs.declared.options.CoreWord.{CoreWord}
 use Rattle.command_words.specs.declared.options.CoreWord.TheVariants.{Plain, File}
 use Rattle.command_words.specs.declared.options.Options.{Options}
-use Rattle.command_words.specs.declared.options.TheConstants.{LATENCY, MOST_STALLS}
+use Rattle.command_words.specs.declared.options.TheConstants.{LATENCY, MOST_STALLS, MOST_BUDGET}
 
 -- A latency is from 1 to 255, and the name of a file isn't empty.
 abbrev pub IsWholeCore : CoreWord → Type 0
@@ -54,4 +54,5 @@ pub record IsWhole (o : Options) : Type 0 where
   pub free : IsListedSet o.free
   -- numbers are in their ranges
   pub most : o.most ≤ MOST_STALLS
+  pub budget : o.budget ≤ MOST_BUDGET
   pub turns : o.turns ≤ TURNS

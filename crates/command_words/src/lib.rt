@@ -10,7 +10,10 @@ mod table;
 mod values;
 mod word_text;
 
-pub use options::{CoreWord, LATENCY, MOST_STALLS, Mode, Options, TURNS_UNSAID, WordsErr};
+pub use options::{
+    BUDGET_UNSAID, CoreWord, LATENCY, MOST_BUDGET, MOST_STALLS, Mode, Options, TURNS_UNSAID,
+    WordsErr,
+};
 pub use reading::read_words;
 pub use sl_base::NoMemory;
 pub use word_text::WordText;

@@ -14,6 +14,12 @@ pub const LATENCY: u64 = 255;
 /// The most stalls that `--max-stalls` takes.
 pub const MOST_STALLS: u64 = 255;
 
+/// The most lists of a tree that `--budget` takes.
+pub const MOST_BUDGET: u64 = 1000000000;
+
+/// How many lists of a tree a command looks at which says nothing of them.
+pub const BUDGET_UNSAID: u64 = 1000000;
+
 /// The turns of a loop that a command takes which says nothing of them.
 pub const TURNS_UNSAID: u64 = 1000000;
 
@@ -59,6 +65,8 @@ pub struct Options {
     pub free: RegSet,
     /// The most stalls of a schedule: at most 255.
     pub most: u32,
+    /// How many lists of choices are looked at in a tree: at most 1000000000.
+    pub budget: u64,
     /// The name of the state file: there is one exactly for `run`.
     pub state: Option<WordText>,
     /// The most turns of a loop that are run: at most 10000000.

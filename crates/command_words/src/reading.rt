@@ -15,7 +15,10 @@ use crate::parsing::said_by;
 use crate::registers::{free_of, live_of};
 use crate::table::{OptionLine, keeps, option_lines, use_by};
 use crate::values::{architecture, core_of, input_of, mode_of, number_or, state_of};
-use crate::{CoreWord, MOST_STALLS, Mode, Options, TURNS_UNSAID, WordText, WordsErr};
+use crate::{
+    BUDGET_UNSAID, CoreWord, MOST_BUDGET, MOST_STALLS, Mode, Options, TURNS_UNSAID, WordText,
+    WordsErr,
+};
 use clap::ArgMatches;
 use sl_isa::{ArchName, RegSet};
 use sl_model::limits::{STALLS, TURNS};
@@ -93,19 +96,21 @@ fn registers_by(
     Ok((live, free))
 }
 
-// The most stalls, and the most turns.
+// The most stalls, the budget, and the most turns.
 #[tactic(auto, unfolding(crate::specs::Command::numbers_by))]
-fn numbers_by(matches: &ArgMatches<'_>) -> Result<(u32, u64), WordsErr>
+fn numbers_by(matches: &ArgMatches<'_>) -> Result<(u32, u64, u64), WordsErr>
     ensures { Gives usage_of (λ numbers. numbers) result
         (spec.numbers_by (first_value (found_of matches.now))) }
 {
     let stalls = number_or(
+        0,
         u64::from(STALLS),
         MOST_STALLS,
         matches.get_str("max-stalls"),
     )?;
-    let turns = number_or(TURNS_UNSAID, u64::from(TURNS), matches.get_str("turns"))?;
-    Ok((stalls as u32, turns))
+    let budget = number_or(1, BUDGET_UNSAID, MOST_BUDGET, matches.get_str("budget"))?;
+    let turns = number_or(0, TURNS_UNSAID, u64::from(TURNS), matches.get_str("turns"))?;
+    Ok((stalls as u32, budget, turns))
 }
 
 // What is asked for by what is said of each name.
@@ -119,7 +124,7 @@ fn options_of(alloc: Global, matches: &ArgMatches<'_>) -> Result<Options, WordsE
     let (input, core, state) = files_by(alloc, matches)?;
     let (start, end) = labels_of(alloc, matches.get_str("start"), matches.get_str("end"))?;
     let (live, free) = registers_by(alloc, arch, matches)?;
-    let (most, turns) = numbers_by(matches)?;
+    let (most, budget, turns) = numbers_by(matches)?;
     Ok(Options {
         mode,
         arch,
@@ -130,6 +135,7 @@ fn options_of(alloc: Global, matches: &ArgMatches<'_>) -> Result<Options, WordsE
         live,
         free,
         most,
+        budget,
         state,
         turns,
     })

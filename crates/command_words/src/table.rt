@@ -40,7 +40,7 @@ fn line(name: &'static str, cost: Use, opt: Use, run: Use) -> OptionLine
 
 /// All options, with their uses by `cost`, `opt` and `run`.
 #[tactic(auto, unfolding(crate::specs::Table::option_lines))]
-pub(crate) fn option_lines() -> [OptionLine; 9]
+pub(crate) fn option_lines() -> [OptionLine; 10]
     ensures { map line_value result ≡ option_lines }
 {
     [
@@ -51,6 +51,7 @@ pub(crate) fn option_lines() -> [OptionLine; 9]
         line("live", Use::Refused, Use::Taken, Use::Refused),
         line("free", Use::Refused, Use::Taken, Use::Refused),
         line("max-stalls", Use::Refused, Use::Taken, Use::Refused),
+        line("budget", Use::Refused, Use::Taken, Use::Refused),
         line("state", Use::Refused, Use::Refused, Use::Required),
         line("turns", Use::Refused, Use::Refused, Use::Taken),
     ]

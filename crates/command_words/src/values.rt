@@ -24,17 +24,22 @@ pub(crate) fn number_in(least: u64, most: u64, word: &str) -> Result<u64, WordsE
     Ok(number as u64)
 }
 
-/// The number that is said, up to another, or the one that stands for none.
-pub(crate) fn number_or(unsaid: u64, most: u64, word: Option<&str>) -> Result<u64, WordsErr>
+/// The number that is said, from one to another, or the one that stands for none.
+pub(crate) fn number_or(
+    least: u64,
+    unsaid: u64,
+    most: u64,
+    word: Option<&str>,
+) -> Result<u64, WordsErr>
     requires { unsaid ≤ most }
     ensures value { Gives usage_of (λ n. n) result
-        (spec.number_or unsaid most (option_map (λ text. text.now) word.entry)) }
+        (spec.number_or least unsaid most (option_map (λ text. text.now) word.entry)) }
     ensures most { IfOk result (λ n. n ≤ most) }
 {
     let Some(word) = word else {
         return Ok(unsaid);
     };
-    number_in(0, most, word)
+    number_in(least, most, word)
 }
 
 // The name of a file: neither empty nor `-`.

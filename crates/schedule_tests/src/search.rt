@@ -4,12 +4,14 @@
 use crate::chains::are_sound;
 use crate::lines::{Line, general, items_of};
 use crate::problems::{ROW, are_known, have_units};
-use bnb_solver::best_schedule;
+use bnb_solver::{Solution, StraightForest, solve};
 use issue_cost::{CostRow, Costs, NoMemory};
 use legal_space::{Choice, Problem, Times, first_broken, frame_of, times_of};
 use sample_set::{Failing, FewForms};
+use sl_base::NoGate;
 use sl_model::register::{Bank, Reg, RegSet};
 use std::alloc::{AllocError, Global};
+use std::thread::Threads;
 
 /// A region of at most 4 items: its lines, the registers that live on, where they aren't all that it
 /// writes, and those that are free, by their bits; and a core, with a row that is every item's.
@@ -137,13 +139,19 @@ fn push_choice(text: &mut String, choice: &Choice, cycle: u32) -> Result<(), All
     write!(text, " at {cycle}, ")
 }
 
-/// The best schedule of a region that has at most so many stalls, as a text.
-fn shown(alloc: Global, region: &Region, most: u32) -> Result<String, NoMemory> {
+/// The trees of a region, of each of which as many lists are looked at as the budget.
+fn forest_of(alloc: Global, region: &Region, budget: u64) -> Result<StraightForest, NoMemory> {
     let problem = problem_of(alloc, region)?;
-    let Some(schedule) = best_schedule(alloc, &problem, most)? else {
-        return Ok(String::from_str(alloc, "none").map_err(AllocError::from)?);
-    };
-    let times = times_of_all(alloc, &problem, &schedule)?;
+    StraightForest::new(alloc, problem, budget).map_err(|_| NoMemory)
+}
+
+/// A schedule as a text.
+fn schedule_text(
+    alloc: Global,
+    problem: &Problem,
+    schedule: &[Choice],
+) -> Result<String, NoMemory> {
+    let times = times_of_all(alloc, problem, schedule)?;
     let mut text = String::new(alloc);
     for (choice, cycle) in schedule.iter().zip(&times.cycles) {
         push_choice(&mut text, choice, *cycle)?;
@@ -151,6 +159,29 @@ fn shown(alloc: Global, region: &Region, most: u32) -> Result<String, NoMemory> 
     write!(text, "cycles {}, stalls {}", times.count, times.stalls)?;
     Ok(text)
 }
+
+/// The verdict of a region whose schedules may have at most so many stalls, as a text.
+fn shown<R: Threads + Sync>(
+    rt: &R,
+    alloc: Global,
+    region: &Region,
+    most: u32,
+    budget: u64,
+) -> Result<String, NoMemory> {
+    let forest = forest_of(alloc, region, budget)?;
+    match solve(rt, alloc, &forest, most, &NoGate)? {
+        Solution::Found { schedule, .. } => schedule_text(alloc, forest.problem(), &schedule),
+        Solution::Spent { level, tree } => {
+            let mut text = String::new(alloc);
+            write!(text, "spent at level {level} in tree {tree}")?;
+            Ok(text)
+        }
+        Solution::Infeasible => Ok(String::from_str(alloc, "none").map_err(AllocError::from)?),
+    }
+}
+
+/// A budget that is never spent here.
+const AMPLE: u64 = 1000000;
 
 /// A name, a region, how many stalls its schedules may have, and the best of them.
 type Case = (&'static str, Region, u32, &'static str);
@@ -212,7 +243,49 @@ const CASES: [Case; 10] = [
 fn the_best_schedule_is_found(rt: HostRuntime) -> Failing {
     let mut failing = Failing::new(rt.alloc());
     for (name, region, most, wanted) in &CASES {
-        let found = shown(rt.alloc(), region, *most).map_err(|_| AllocError);
+        let found = shown(&rt, rt.alloc(), region, *most, AMPLE).map_err(|_| AllocError);
+        failing.compare(name, found, wanted);
+    }
+    failing
+}
+
+/// A name, a region, a budget, and the verdict.
+type BudgetCase = (&'static str, Region, u64, &'static str);
+
+const BUDGETS: [BudgetCase; 6] = [
+    ("no item, one list", EMPTY, 1, "cycles 0, stalls 0"),
+    ("no item, no list", EMPTY, 0, "spent at level 0 in tree 0"),
+    (
+        "a chain, as many lists as it has",
+        CHAIN,
+        2,
+        "0/0 x1 at 0, 1/0 x2 at 2, cycles 3, stalls 1",
+    ),
+    (
+        "a chain, one list too few",
+        CHAIN,
+        1,
+        "spent at level 1 in tree 0",
+    ),
+    (
+        "an item between, as many lists as it has",
+        BESIDE,
+        3,
+        "0/0 x1 at 0, 2/0 x3 at 1, 1/0 x2 at 2, cycles 3, stalls 0",
+    ),
+    (
+        "an item between, one list too few",
+        BESIDE,
+        2,
+        "spent at level 0 in tree 0",
+    ),
+];
+
+#[test]
+fn a_budget_is_spent_where_it_ends(rt: HostRuntime) -> Failing {
+    let mut failing = Failing::new(rt.alloc());
+    for (name, region, budget, wanted) in &BUDGETS {
+        let found = shown(&rt, rt.alloc(), region, 64, *budget).map_err(|_| AllocError);
         failing.compare(name, found, wanted);
     }
     failing
@@ -340,14 +413,15 @@ fn are_fewest(
 }
 
 /// Has the best schedule of a region as few stalls as any legal one, with any registers?
-fn is_fewest(alloc: Global, region: &Region) -> Result<bool, NoMemory> {
-    let problem = problem_of(alloc, region)?;
-    let schedules = all_schedules(alloc, &problem)?;
-    let Some(best) = best_schedule(alloc, &problem, 255)? else {
+fn is_fewest<R: Threads + Sync>(rt: &R, alloc: Global, region: &Region) -> Result<bool, NoMemory> {
+    let forest = forest_of(alloc, region, AMPLE)?;
+    let problem = forest.problem();
+    let schedules = all_schedules(alloc, problem)?;
+    let Solution::Found { schedule, .. } = solve(rt, alloc, &forest, 255, &NoGate)? else {
         return Ok(false);
     };
-    let stalls = times_of_all(alloc, &problem, &best)?.stalls;
-    are_fewest(alloc, &problem, &schedules, stalls)
+    let stalls = times_of_all(alloc, problem, &schedule)?.stalls;
+    are_fewest(alloc, problem, &schedules, stalls)
 }
 
 /// Regions with names.
@@ -365,7 +439,7 @@ const REGIONS: [(&str, Region); 7] = [
 fn no_legal_schedule_has_fewer_stalls(rt: HostRuntime) -> Result<Failing, NoMemory> {
     let mut failing = Failing::new(rt.alloc());
     for (name, region) in &REGIONS {
-        failing.check(name, is_fewest(rt.alloc(), region)?);
+        failing.check(name, is_fewest(&rt, rt.alloc(), region)?);
     }
     Ok(failing)
 }

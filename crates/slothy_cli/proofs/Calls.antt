@@ -1,10 +1,10 @@
 -- What the ending of a call says of its status.
-use Rattle.std.proofs.Common.{sym, ◌∙◌, ◌≡◌, ℕ, ◌⊎◌, inl, inr, List, Option, None, Some, Result, Ok, Err, refl, ap, subst}
+use Rattle.std.proofs.Common.{sym, ◌∙◌, ◌≡◌, ℕ, ◌⊎◌, inl, inr, Bool, true, false, nat_lt, length, List, Option, None, Some, Result, Ok, Err, refl, ap, subst}
 use Rattle.std.specs.Prelude.{MatchOption, MatchResult}
 use Rattle.sl_model.specs.declared.instruction.ArchName.{ArchName}
 use Rattle.slothy_cli.specs.declared.stop.File.{File}
 use Rattle.slothy_cli.specs.declared.stop.Stop.{Stop}
-use Rattle.slothy_cli.specs.declared.stop.Stop.TheVariants.{CoreRefused, Refused, TooLarge, Infeasible}
+use Rattle.slothy_cli.specs.declared.stop.Stop.TheVariants.{CoreRefused, Refused, TooLarge, Infeasible, Budget}
 use Rattle.slothy_cli.specs.declared.status.Status.TheVariants as statuses
 use Rattle.slothy_cli.specs.declared.status.Ending.{Ending}
 use Rattle.slothy_cli.specs.declared.status.Ending.TheVariants as endings
@@ -14,12 +14,18 @@ use Rattle.command_words.specs.declared.options.Options.{Options}
 use Rattle.command_words.specs.declared.options.WordsErr.{WordsErr}
 use Rattle.command_words.specs.declared.options.WordsErr.TheVariants as errors
 use Rattle.sl_model.specs.Answers.{Gives}
-use Rattle.slothy_cli.specs.Command.{Job, cost, opt, Command, command_in, command_by, command_of}
+use Rattle.slothy_cli.specs.Command.{Aim, Job, cost, opt, Command, command_in, command_by, command_of}
 use Rattle.slothy_cli.specs.Setting.{Setting}
 use Rattle.sl_isa.specs.Language.{Language}
 use Rattle.slothy_cli.specs.Languages.{language_of}
+use Rattle.sl_model.specs.declared.schedule.Choice.{Choice}
+use Rattle.search_space.specs.Levels.{Verdict, straight_trees, verdict}
+use Rattle.search_space.specs.Levels.Outcome.{Found, Spent, Nothing}
+use Rattle.search_space.specs.Levels.Verdict.{First, Infeasible as NoneFound}
+use Rattle.bnb_solver.specs.declared.refusal.TheConstants.{TREES}
+use Rattle.slothy_cli.specs.Plan.{region_problem}
 use Rattle.slothy_cli.specs.Reads.{outcome}
-use Rattle.slothy_cli.specs.Outcome.{JobAnswers, Work, scheduling, running, WorkAnswers, command_reads, CommandAnswers}
+use Rattle.slothy_cli.specs.Outcome.{FoundAnswers, TreesAnswer, JobAnswers, Work, scheduling, running, WorkAnswers, command_reads, CommandAnswers}
 use Rattle.slothy_cli.specs.Messages.{Names, status_of, stop_status, message_of}
 use Rattle.slothy_cli.specs.Ending.{FilesRun, SinkRun, TookNothing, TookFront, Seen, names_of_command, names_given, seen_of, HasCome, AreTold, Comes, Ends, IsWrong, Call, IsStatusOf}
 use Rattle.slothy_cli.proofs.Follows.{AgreesOrFails, follows-no_memory, follows-never, follows-agrees}
@@ -35,6 +41,7 @@ stop_is_no_usage (CoreRefused reason key) e = cc
 stop_is_no_usage (Refused file line reason) e = cc
 stop_is_no_usage (TooLarge file line quantity limit) e = cc
 stop_is_no_usage (Infeasible most) e = cc
+stop_is_no_usage (Budget level tree) e = cc
 
 end_is_no_usage : (language : Language) (c : Command) (seen : Seen) (out : SinkRun) (ending : Ending) → Ends language c seen out ending → status_of ending ≡ statuses.Usage → ⊥
 end_is_no_usage language c seen out endings.Done h e = cc
@@ -126,12 +133,24 @@ alike_same (Err x) (Err y) e = cc
 alike_same (Ok x) (Err y) e = absurd (cc)
 alike_same (Err x) (Ok y) e = absurd (cc)
 
+-- texts of what was found
+found_alike : (language : Language) (aim : Aim) (setting : Setting) (schedule : List Choice) (a b : Result (List ℕ) Stop) → FoundAnswers language aim setting schedule a → FoundAnswers language aim setting schedule b → AreAlike a b
+found_alike language aim setting schedule (Ok x) (Ok y) h k = tt
+found_alike language aim setting schedule (Ok x) (Err y) h k = absurd k
+found_alike language aim setting schedule (Err x) b h k = absurd h
+
+opt_alike : (language : Language) (aim : Aim) (setting : Setting) (many : Bool) (v : Verdict) (a b : Result (List ℕ) Stop) → TreesAnswer language aim setting many v a → TreesAnswer language aim setting many v b → AreAlike a b
+opt_alike language aim setting true v a b h k = alike_same a b (h ∙ sym k)
+opt_alike language aim setting false (First level tree (Found schedule)) a b h k = found_alike language aim setting schedule a b h k
+opt_alike language aim setting false (First level tree Spent) a b h k = alike_same a b (h ∙ sym k)
+opt_alike language aim setting false (First level tree Nothing) a b h k = absurd h
+opt_alike language aim setting false NoneFound a b h k = alike_same a b (h.0 ∙ sym k.0)
+
 job_alike : (language : Language) (job : Job) (setting : Setting) (a b : Result (List ℕ) Stop) → JobAnswers language job setting a → JobAnswers language job setting b → AreAlike a b
 job_alike language cost setting a b h k = alike_same a b (h ∙ sym k)
-job_alike language (opt aim) setting (Ok x) (Ok y) h k = tt
-job_alike language (opt aim) setting (Err x) (Err y) h k = h.0 ∙ sym k.0
-job_alike language (opt aim) setting (Ok x) (Err y) h k = k.1 h.schedule h.best.member
-job_alike language (opt aim) setting (Err x) (Ok y) h k = h.1 k.schedule k.best.member
+job_alike language (opt aim) setting a b h k =
+    opt_alike language aim setting (nat_lt TREES (length (straight_trees (region_problem language.isa aim setting))))
+    (verdict (straight_trees (region_problem language.isa aim setting)) aim.most aim.budget) a b h k
 
 work_alike : (language : Language) (work : Work) (a b : Result (List ℕ) Stop) → WorkAnswers language work a → WorkAnswers language work b → AreAlike a b
 work_alike language (scheduling job setting) a b h k = job_alike language job setting a b h k
@@ -164,10 +183,12 @@ stop_is_status (CoreRefused reason key) (Ok text) e = absurd e
 stop_is_status (Refused file line reason) (Ok text) e = absurd e
 stop_is_status (TooLarge file line quantity limit) (Ok text) e = absurd e
 stop_is_status (Infeasible most) (Ok text) e = absurd e
+stop_is_status (Budget level tree) (Ok text) e = absurd e
 stop_is_status (CoreRefused reason key) (Err other) e = ap stop_status e
 stop_is_status (Refused file line reason) (Err other) e = ap stop_status e
 stop_is_status (TooLarge file line quantity limit) (Err other) e = ap stop_status e
 stop_is_status (Infeasible most) (Err other) e = ap stop_status e
+stop_is_status (Budget level tree) (Err other) e = ap stop_status e
 
 read_fault_status : (answer : Result (List ℕ) Stop) → IsStatusOf answer statuses.ReadFault
 read_fault_status (Ok text) = tt

@@ -12,14 +12,16 @@ use Rattle.command_words.specs.declared.options.Mode.TheVariants as modes
 use Rattle.command_words.specs.declared.options.Options.{Options}
 use Rattle.sl_model.specs.declared.instruction.ArchName.{ArchName}
 use Rattle.sl_model.specs.declared.register.RegSet.{RegSet}
-use Rattle.sl_model.specs.declared.limits.TheConstants.{ITEMS, SEARCHED}
+use Rattle.sl_model.specs.declared.limits.TheConstants.{ITEMS}
 
 -- What `opt` is asked for: the registers that live on behind the region, where they are given, those
--- that are free, and how many stalls a schedule may have.
+-- that are free, how many stalls a schedule may have, and how many lists of choices are looked at in
+-- a tree.
 pub record Aim : Type 0 where
   pub live : Option RegSet
   pub free : RegSet
   pub most : ℕ
+  pub budget : ℕ
 
 -- What is done with a region on a core: it is costed as it stands, or rescheduled.
 pub data Job : Type 0 where
@@ -42,7 +44,7 @@ pub record Command : Type 0 where
 
 -- what `opt` is asked for by options
 abbrev pub aim_in : Options → Aim
-aim_in o = record { live = o.live; free = o.free; most = o.most }
+aim_in o = record { live = o.live; free = o.free; most = o.most; budget = o.budget }
 
 -- what a mode does by its options
 abbrev pub task_in : Mode → Options → Option Task
@@ -66,10 +68,10 @@ command_by (Err wrong) = None
 unfoldable pub command_of : List (List ℕ) → Option Command
 command_of said = command_by (words.command_of said)
 
--- what a job wants of a region: at most 64 items, and `opt` at most 8
+-- what a job wants of a region: at most 64 items
 abbrev pub wants_for : Job → Wants
 wants_for cost = record { limit = ITEMS }
-wants_for (opt aim) = record { limit = SEARCHED }
+wants_for (opt aim) = record { limit = ITEMS }
 
 -- what a task wants of a region
 abbrev pub wants_of : Task → Wants

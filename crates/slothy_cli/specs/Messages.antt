@@ -39,6 +39,7 @@ stop_status (stops.CoreRefused reason key) = statuses.Refused
 stop_status (stops.Refused file line reason) = statuses.Refused
 stop_status (stops.TooLarge file line quantity limit) = statuses.TooLarge
 stop_status (stops.Infeasible most) = statuses.Infeasible
+stop_status (stops.Budget level tree) = statuses.Budget
 
 -- the status of an ending
 abbrev pub status_of : Ending → Status
@@ -95,6 +96,7 @@ quantity_text quantities.File = codes "file"
 quantity_text quantities.Items = codes "items"
 quantity_text quantities.Depth = codes "depth"
 quantity_text quantities.Expansion = codes "expansion"
+quantity_text quantities.Trees = codes "trees"
 
 -- the names of a command's files
 pub record Names : Type 0 where
@@ -126,6 +128,9 @@ stop_message names (stops.TooLarge file line quantity limit) =
     ∷ quantity_text quantity ∷ codes " limit=" ∷ decimal limit ∷ codes "\n" ∷ [])
 stop_message names (stops.Infeasible most) =
     joined (codes "slothy: infeasible up to " ∷ decimal most ∷ codes " stalls\n" ∷ [])
+stop_message names (stops.Budget level tree) =
+    joined (codes "slothy: budget: level=" ∷ decimal level ∷ codes " tree=" ∷ decimal tree
+    ∷ codes "\n" ∷ [])
 
 -- the line on standard error of an ending, where the files have these names;
 -- there is none where all went well

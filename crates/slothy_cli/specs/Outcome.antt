@@ -1,5 +1,5 @@
 -- What a command answers to the bytes of its files: a text, or the reason why there is none.
-use Rattle.std.specs.Prelude.{ℕ, ◌≡◌, List, MatchResult, Result, Ok, Err, true, false, if◌then◌else◌}
+use Rattle.std.specs.Prelude.{ℕ, Bool, ◌≡◌, nat_lt, length, List, Option, None, Some, MatchResult, Result, Ok, Err, true, false, if◌then◌else◌}
 use Rattle.sl_model.specs.declared.schedule.Choice.{Choice}
 use Rattle.sl_model.specs.State.{State}
 use Rattle.sl_model.specs.Exec.{touches}
@@ -7,13 +7,22 @@ use Rattle.sl_model.specs.Space.{InSpace, IsBest}
 use Rattle.sl_model.specs.Program.{TagsHoldOf, Leaves}
 use Rattle.sl_model.specs.Program.Program.{Straight}
 use Rattle.sl_model.specs.Machine.{space_of}
-use Rattle.sl_model.specs.declared.limits.TheConstants.{SEARCHED}
+use Rattle.sl_model.specs.declared.limits.TheConstants.{ITEMS}
 use Rattle.sl_isa.specs.Language.{Language}
 use Rattle.sl_isa.specs.declared.arch.CounterOp.TheVariants.{Sub, Subs}
 use Rattle.asm_reader.specs.declared.reasons.Wants.{Wants}
 use Rattle.asm_reader.specs.Reading.{Progress, Region, region_alone}
 use Rattle.slothy_cli.specs.declared.stop.Stop.{Stop}
-use Rattle.slothy_cli.specs.declared.stop.Stop.TheVariants.{Infeasible}
+use Rattle.slothy_cli.specs.declared.stop.Stop.TheVariants as stops
+use Rattle.slothy_cli.specs.declared.stop.Quantity.TheVariants as quantities
+use Rattle.search_space.specs.Levels.{Verdict, straight_trees, verdict}
+use Rattle.search_space.specs.Levels.Outcome.{Found, Spent, Nothing}
+use Rattle.search_space.specs.Levels.Verdict.{First, Infeasible}
+use Rattle.bnb_solver.specs.declared.refusal.TheConstants.{TREES}
+use Rattle.bnb_solver.specs.Straight.{Straight as TreesOf}
+use Rattle.bnb_solver.specs.declared.refusal.ForestErr.{ForestErr}
+use Rattle.bnb_solver.specs.declared.refusal.ForestErr.TheVariants as refusals
+use Rattle.sl_model.specs.Legal.{Problem}
 use Rattle.slothy_cli.specs.declared.stop.File.{File}
 use Rattle.slothy_cli.specs.declared.stop.File.TheVariants as files
 use Rattle.command_words.specs.declared.options.CoreWord.{CoreWord}
@@ -29,13 +38,12 @@ use Rattle.slothy_cli.specs.CostText.{cost_text}
 
 -- what is asked of the written region, which is read by itself
 abbrev pub wants_again : Wants
-wants_again = record { limit = SEARCHED }
+wants_again = record { limit = ITEMS }
 
--- The text of `opt`: the written file of the best schedule; and its region, read by itself, leaves
--- what the old one leaves, from every state.
+-- The text of `opt`: the written file of a schedule, which is the best of the space; and its region,
+-- read by itself, leaves what the old one leaves, from every state.
 pub record OptText (language : Language) (aim : Aim) (setting : Setting)
-    (text : List ℕ) : Type 0 where
-  pub schedule : List Choice
+    (schedule : List Choice) (text : List ℕ) : Type 0 where
   pub best : IsBest (region_problem language.isa aim setting) aim.most schedule
   pub text_is : text
       ≡ schedule_file language setting.core setting.region
@@ -51,13 +59,54 @@ pub record OptText (language : Language) (aim : Aim) (setting : Setting)
       (region_frame aim setting.region.items) (Straight setting.region.items)
       (Straight new.draft.items) s
 
--- what `opt` answers to a region on a core: the text of the best schedule, or that there is none
-abbrev pub OptAnswers : Language → Aim → Setting → Result (List ℕ) Stop → Type 0
-OptAnswers language aim setting (Ok text) = OptText language aim setting text
-OptAnswers language aim setting (Err stop) =
-    (stop ≡ Infeasible aim.most)
+-- what is answered where a schedule was found: its text
+abbrev pub FoundAnswers : Language → Aim → Setting → List Choice → Result (List ℕ) Stop → Type 0
+FoundAnswers language aim setting schedule (Ok text) = OptText language aim setting schedule text
+FoundAnswers language aim setting schedule (Err stop) = ⊥
+
+-- What is answered to a verdict: the text of the schedule that was found; or where the budget was
+-- spent; or that there is no schedule, and then the space is empty.
+abbrev pub VerdictAnswers : Language → Aim → Setting → Verdict → Result (List ℕ) Stop → Type 0
+VerdictAnswers language aim setting (First level tree (Found schedule)) answer =
+    FoundAnswers language aim setting schedule answer
+VerdictAnswers language aim setting (First level tree Spent) answer =
+    answer ≡ Err (stops.Budget level tree)
+VerdictAnswers language aim setting (First level tree Nothing) answer = ⊥
+VerdictAnswers language aim setting Infeasible answer =
+    (answer ≡ Err (stops.Infeasible aim.most))
     × ((schedule : List Choice)
     → InSpace (region_problem language.isa aim setting) aim.most schedule → ⊥)
+
+-- the reason to stop of a search with too many trees
+abbrev pub too_many_trees : Stop
+too_many_trees = stops.TooLarge files.Input 0 quantities.Trees TREES
+
+-- the same where there are too many trees, or not
+abbrev pub TreesAnswer : Language → Aim → Setting → Bool → Verdict → Result (List ℕ) Stop → Type 0
+TreesAnswer language aim setting true found answer = answer ≡ Err too_many_trees
+TreesAnswer language aim setting false found answer =
+    VerdictAnswers language aim setting found answer
+
+-- what `opt` answers to a region on a core, by the trees of its problem and their verdict
+abbrev pub OptAnswers : Language → Aim → Setting → Result (List ℕ) Stop → Type 0
+OptAnswers language aim setting answer =
+    TreesAnswer language aim setting
+    (nat_lt TREES (length (straight_trees (region_problem language.isa aim setting))))
+    (verdict (straight_trees (region_problem language.isa aim setting)) aim.most aim.budget) answer
+
+-- what a problem's trees are made into: a forest, unless there are too many
+abbrev pub ForestAnswers : Problem → ℕ → Result TreesOf Stop → Type 0
+ForestAnswers problem budget (Ok forest) =
+    (forest ≡ record { problem = problem; budget = budget })
+    × (nat_lt TREES (length (straight_trees problem)) ≡ false)
+ForestAnswers problem budget (Err stop) =
+    (stop ≡ too_many_trees) × (nat_lt TREES (length (straight_trees problem)) ≡ true)
+
+-- the reason to stop of trees that were refused, and none for want of memory
+abbrev pub trees_stop : ForestErr → Option Stop
+trees_stop (refusals.TooManyTrees limit) =
+    Some (stops.TooLarge files.Input 0 quantities.Trees limit)
+trees_stop refusals.NoMemory = None
 
 -- what a job answers to a region on a core
 abbrev pub JobAnswers : Language → Job → Setting → Result (List ℕ) Stop → Type 0

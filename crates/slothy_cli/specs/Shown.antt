@@ -22,7 +22,8 @@ use Rattle.slothy_cli.specs.Reads.{too_long}
 
 -- what `opt` is asked for
 abbrev pub shown_aim : aims.Aim → Aim
-shown_aim aim = record { live = aim.live; free = aim.free; most = aim.most }
+shown_aim aim =
+    record { live = aim.live; free = aim.free; most = aim.most; budget = aim.budget }
 
 -- what is done with a region
 abbrev pub shown_job : jobs.Job → Job

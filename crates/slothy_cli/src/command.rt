@@ -10,7 +10,7 @@ use crate::files::Names;
 use asm_reader::Wants;
 use command_words::{CoreWord, Mode, Options};
 use sl_isa::ArchName;
-use sl_model::limits::{ITEMS, SEARCHED};
+use sl_model::limits::ITEMS;
 use sl_model::register::RegSet;
 
 /// What `opt` is asked for.
@@ -22,6 +22,8 @@ pub struct Aim {
     pub free: RegSet,
     /// The most stalls of a schedule.
     pub most: u32,
+    /// How many lists of choices are looked at in a tree.
+    pub budget: u64,
 }
 
 /// What is done with a region on a core.
@@ -34,7 +36,7 @@ pub enum Job {
 }
 
 impl Job {
-    /// What is wanted of a region: at most 64 instructions, and by `opt` at most 8.
+    /// What is wanted of a region: at most 64 instructions.
     pub fn wants(self) -> Wants
         ensures { result ≡ wants_for (shown_job self) }
     {
@@ -43,7 +45,7 @@ impl Job {
                 limit: ITEMS as u16,
             },
             Job::Opt(_) => Wants {
-                limit: SEARCHED as u16,
+                limit: ITEMS as u16,
             },
         }
     }
@@ -150,6 +152,7 @@ fn task_in(options: &Options) -> Option<Task<'_>>
                 live: options.live,
                 free: options.free,
                 most: options.most,
+                budget: options.budget,
             }),
         ),
         Mode::Run => {

@@ -5,15 +5,17 @@ ghost use Rattle.sl_model.specs.Body.{applied};
 ghost use Rattle.sl_model.specs.Graph.{body_of};
 ghost use Rattle.sl_model.specs.Legal.{IsFullLegal};
 ghost use Rattle.renamer.specs.WellPosed.{IsGraphOf};
-ghost use Rattle.sl_model.specs.declared.limits.TheConstants.{SEARCHED};
+ghost use Rattle.sl_model.specs.declared.limits.TheConstants.{ITEMS};
 ghost use Rattle.sl_isa.specs.SymbolViews.{pairs};
 ghost use Rattle.asm_reader.specs.Regions.{AreNamed, is_right_unit};
 ghost use Rattle.asm_reader.specs.RegionViews.{region_of};
 ghost use Rattle.asm_printer.specs.Printed.{is_whole_plan};
 ghost use Rattle.slothy_cli.specs.Plan as plans;
-ghost use Rattle.slothy_cli.specs.Plan.{schedule_file};
+ghost use Rattle.slothy_cli.specs.Plan.{schedule_file, region_problem};
+ghost use Rattle.search_space.specs.Levels.{straight_trees, verdict};
+ghost use Rattle.bnb_solver.specs.Solved.{verdict_of};
 ghost use Rattle.slothy_cli.specs.Command.{opt, wants_for};
-ghost use Rattle.slothy_cli.specs.Outcome.{OptAnswers};
+ghost use Rattle.slothy_cli.specs.Outcome.{OptAnswers, VerdictAnswers, ForestAnswers, trees_stop};
 ghost use Rattle.slothy_cli.specs.Setting.{IsSetting};
 ghost use Rattle.sl_model.specs.Answers.{Settles};
 ghost use Rattle.slothy_cli.specs.Shown.{shown_aim, setting_of, stop_told};
@@ -22,13 +24,15 @@ use crate::command::Aim;
 use crate::plan::plan_of;
 use crate::problem::region_problem;
 use crate::setting::Setting;
-use crate::stop::{Failure, Stop};
+use crate::stop::{Failure, File, Quantity, Stop};
 use asm_printer::written_text;
-use bnb_solver::best_schedule;
+use bnb_solver::{ForestErr, Solution, StraightForest, solve};
 use legal_space::{Choice, Problem, times_of};
 use renamer::apply;
+use sl_base::Gate;
 use sl_isa::Arch;
 use std::alloc::Global;
+use std::thread::Threads;
 
 // The written file of a full legal schedule of the items of a region, each on a unit of the core.
 #[tactic(auto, unfolding(crate::specs::Plan::plan_of))]
@@ -39,7 +43,7 @@ fn written_file<A: Arch>(
     setting: Setting<'_, '_>,
     schedule: &[Choice],
 ) -> Result<Vec<u8>, Failure>
-    requires few { length schedule.now ≤ SEARCHED }
+    requires few { length schedule.now ≤ ITEMS }
     requires known { IsTrue
         (list_all (λ c. nat_lt c.item (length problem.now.graph.items)) schedule.now) }
     requires units { IsTrue (list_all (λ c. nat_lt c.unit 16) schedule.now) }
@@ -64,22 +68,82 @@ fn written_file<A: Arch>(
     Ok(text)
 }
 
-/// The written file of the best schedule of a region on a core, of at most 8 items; or that no
-/// schedule has few enough stalls.
-pub fn opt_text<A: Arch>(
+// The trees of a problem; there may be too many.
+fn forest_of(alloc: Global, problem: Problem, budget: u64) -> Result<StraightForest, Failure>
+    ensures { Settles stop_told (λ forest. forest) result (ForestAnswers problem budget) }
+{
+    match StraightForest::new(alloc, problem, budget) {
+        Ok(forest) => Ok(forest),
+        Err(error) => Err(refused(error)),
+    }
+}
+
+// Why there is no text where there are no trees.
+fn refused(error: ForestErr) -> Failure
+    ensures { stop_told result ≡ trees_stop error }
+{
+    match error {
+        ForestErr::TooManyTrees { limit } => Failure::Stopped(Stop::TooLarge {
+            file: File::Input,
+            line: 0,
+            quantity: Quantity::Trees,
+            limit: u64::from(limit),
+        }),
+        ForestErr::NoMemory => Failure::NoMemory,
+    }
+}
+
+// What the search of a region's problem came to, as the text or the reason why there is none.
+fn text_of_solution<A: Arch>(
     arch: &A,
     alloc: Global,
     setting: Setting<'_, '_>,
     aim: Aim,
+    forest: &StraightForest,
+    solution: Solution,
+) -> Result<Vec<u8>, Failure>
+    requires setting { IsSetting A.language (wants_for (opt (shown_aim aim))) (setting_of setting) }
+    requires forest { forest.now ≡ record {
+      problem = region_problem A.language.isa (shown_aim aim) (setting_of setting);
+      budget = aim.budget;
+    } }
+    requires verdict { verdict (straight_trees forest.now.problem) aim.most forest.now.budget
+        ≡ verdict_of solution }
+    ensures { Settles stop_told (λ text. text.items) result
+        (VerdictAnswers A.language (shown_aim aim) (setting_of setting.entry)
+        (verdict (straight_trees (region_problem A.language.isa (shown_aim aim)
+        (setting_of setting.entry))) aim.most aim.budget)) }
+{
+    let problem = forest.problem();
+    problem.is_searchable();
+    match solution {
+        Solution::Found { schedule, .. } => {
+            written_file(arch, alloc, problem, setting, &schedule)
+        }
+        Solution::Spent { level, tree } => Err(Failure::Stopped(Stop::Budget { level, tree })),
+        Solution::Infeasible => Err(Failure::Stopped(Stop::Infeasible { most: aim.most })),
+    }
+}
+
+/// The written file of the best schedule of a region on a core; or that no schedule has few enough
+/// stalls; or where the budget was spent.
+pub fn opt_text<A: Arch, R: Threads + Sync, G: Gate + Sync>(
+    arch: &A,
+    rt: &R,
+    alloc: Global,
+    setting: Setting<'_, '_>,
+    aim: Aim,
+    gate: &G,
 ) -> Result<Vec<u8>, Failure>
     requires { IsSetting A.language (wants_for (opt (shown_aim aim))) (setting_of setting) }
     ensures { Settles stop_told (λ text. text.items) result
         (OptAnswers A.language (shown_aim aim) (setting_of setting.entry)) }
 {
     let problem = region_problem(arch, alloc, setting, aim)?;
-    problem.is_searchable();
-    let Some(schedule) = best_schedule(alloc, &problem, aim.most)? else {
-        return Err(Failure::Stopped(Stop::Infeasible { most: aim.most }));
+    let forest = match forest_of(alloc, problem, aim.budget) {
+        Ok(forest) => forest,
+        Err(failure) => return Err(failure),
     };
-    written_file(arch, alloc, &problem, setting, &schedule)
+    let solution = solve(rt, alloc, &forest, aim.most, gate)?;
+    text_of_solution(arch, alloc, setting, aim, &forest, solution)
 }

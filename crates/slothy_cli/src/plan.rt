@@ -2,7 +2,7 @@
 ghost use Rattle.std.specs.Prelude.{◌≡◌, ◌++◌, ◌<◌, ◌≤◌, nat_lt, length, map, IfOk, OnOk, IsTrue};
 ghost use Rattle.std.specs.List.{list_all};
 ghost use Rattle.sl_model.specs.Token.{is_unit_name};
-ghost use Rattle.sl_model.specs.declared.limits.TheConstants.{SEARCHED};
+ghost use Rattle.sl_model.specs.declared.limits.TheConstants.{ITEMS};
 ghost use Rattle.asm_reader.specs.NoteViews.{note_value};
 ghost use Rattle.asm_reader.specs.Regions.{is_right_unit};
 ghost use Rattle.asm_printer.specs.PlanViews.{plan_value};
@@ -80,7 +80,7 @@ fn push_notes(
     push_notes(notes, core, items, schedule, cycles)
 }
 
-/// The plan of the instructions of a schedule of at most 8 choices, each on a unit of the core.
+/// The plan of the instructions of a schedule of at most 64 choices, each on a unit of the core.
 pub(crate) fn plan_of(
     alloc: Global,
     core: &Core,
@@ -88,7 +88,7 @@ pub(crate) fn plan_of(
     schedule: &[Choice],
     times: &Times,
 ) -> Result<Plan, NoMemory>
-    requires few { length schedule.now ≤ SEARCHED }
+    requires few { length schedule.now ≤ ITEMS }
     requires units { IsTrue (list_all (λ c. nat_lt c.unit (length core.now.units)) schedule.now) }
     ensures told { IfOk result (λ plan. plan_value plan
         ≡ spec.plan_from core.now items.now schedule.now times.now.cycles.items times.now.count

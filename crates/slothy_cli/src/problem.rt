@@ -50,6 +50,7 @@ pub fn own_problem<A: Arch>(
         live: None,
         free: RegSet { bits: 0 },
         most: 0,
+        budget: 0,
     };
     region_problem(arch, alloc, setting, aim)
 }

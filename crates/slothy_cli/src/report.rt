@@ -98,6 +98,7 @@ fn quantity_text(quantity: Quantity) -> &'static str
         Quantity::Items => "items",
         Quantity::Depth => "depth",
         Quantity::Expansion => "expansion",
+        Quantity::Trees => "trees",
     }
 }
 
@@ -171,6 +172,19 @@ fn report_infeasible<S: Sink>(sink: &mut S, most: &str)
     tell(sink, &["slothy: infeasible up to ", most, " stalls\n"]);
 }
 
+// Says in which tree of which level the budget was spent, in decimal digits.
+fn report_budget<'a, S: Sink>(sink: &mut S, level: &'a str, tree: &'a str)
+    ensures never_falls { S.faults sink.old ≤ S.faults sink.new }
+    ensures took { TookFront (sink_run S.taken S.faults sink.old sink.new)
+        (joined (codes "slothy: budget: level=" ∷ level.now ∷ codes " tree=" ∷ tree.now
+        ∷ codes "\n" ∷ [])) }
+{
+    tell(
+        sink,
+        &["slothy: budget: level=", level, " tree=", tree, "\n"],
+    );
+}
+
 // Says why a file has no text.
 fn report_stop<S: Sink>(sink: &mut S, names: Names<'_>, stop: &Stop)
     ensures never_falls { S.faults sink.old ≤ S.faults sink.new }
@@ -201,6 +215,9 @@ fn report_stop<S: Sink>(sink: &mut S, names: Names<'_>, stop: &Stop)
             report_limit(sink, name, line, quantity_text(*quantity), limit);
         }
         Stop::Infeasible { most } => report_infeasible(sink, limit_digits.format(*most)),
+        Stop::Budget { level, tree } => {
+            report_budget(sink, line_digits.format(*level), limit_digits.format(*tree));
+        }
     }
 }
 

@@ -82,6 +82,7 @@ impl Ending {
             Ending::Stopped(Stop::Refused { .. }) => Status::Refused,
             Ending::Stopped(Stop::TooLarge { .. }) => Status::TooLarge,
             Ending::Stopped(Stop::Infeasible { .. }) => Status::Infeasible,
+            Ending::Stopped(Stop::Budget { .. }) => Status::Budget,
             Ending::ReadFault(_) => Status::ReadFault,
             Ending::WriteFault { .. } => Status::WriteFault,
             Ending::NoMemory => Status::NoMemory,

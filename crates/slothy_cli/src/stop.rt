@@ -68,6 +68,8 @@ pub enum Quantity {
     Depth,
     /// What the statements of an expansion add up to.
     Expansion,
+    /// The trees of the search.
+    Trees,
 }
 
 /// Why an input has no answer. Lines are counted from 1, and 0 stands for the whole file.
@@ -87,6 +89,11 @@ pub enum Stop {
     /// No schedule has at most this many stalls.
     Infeasible {
         most: u32,
+    },
+    /// The budget was spent in this tree, of the trees at this level of stalls.
+    Budget {
+        level: u32,
+        tree: u32,
     },
     /// The quantity passes its limit at this line of the file.
     TooLarge {

@@ -35,12 +35,14 @@ fn deliver<O: Sink>(out: &mut O, text: &[u8]) -> Ending
 }
 
 // Carries a command out for an architecture.
-fn carry_out_for<A: Arch, F: Files, O: Sink>(
+fn carry_out_for<A: Arch, R: Threads + Sync, F: Files, O: Sink, G: Gate + Sync>(
     arch: &A,
+    rt: &R,
     alloc: Global,
     command: &Command<'_>,
     files: &mut F,
     out: &mut O,
+    gate: &G,
 ) -> Ending
     requires core { HasCore (shown_task command.now.task) }
     ensures same_files { F.holds files.new ≡ F.holds files.old }
@@ -51,18 +53,20 @@ fn carry_out_for<A: Arch, F: Files, O: Sink>(
         (files_run F.faults F.given F.chosen F.broken files.old files.new))
         (sink_run O.taken O.faults out.old out.new) result }
 {
-    match text_of_files(arch, alloc, command, files) {
+    match text_of_files(arch, rt, alloc, command, files, gate) {
         Ok(text) => deliver(out, &text),
         Err(ending) => ending,
     }
 }
 
 // Carries a command out.
-fn carry_out<F: Files, O: Sink>(
+fn carry_out<R: Threads + Sync, F: Files, O: Sink, G: Gate + Sync>(
+    rt: &R,
     alloc: Global,
     command: &Command<'_>,
     files: &mut F,
     out: &mut O,
+    gate: &G,
 ) -> Ending
     requires core { HasCore (shown_task command.now.task) }
     ensures same_files { F.holds files.new ≡ F.holds files.old }
@@ -74,8 +78,8 @@ fn carry_out<F: Files, O: Sink>(
         (sink_run O.taken O.faults out.old out.new) result }
 {
     match command.arch {
-        ArchName::Arm64 => carry_out_for(&Arm64, alloc, command, files, out),
-        ArchName::M4 => carry_out_for(&M4, alloc, command, files, out),
+        ArchName::Arm64 => carry_out_for(&Arm64, rt, alloc, command, files, out, gate),
+        ArchName::M4 => carry_out_for(&M4, rt, alloc, command, files, out, gate),
     }
 }
 
@@ -96,12 +100,14 @@ fn refuse<E: Sink>(err: &mut E, ending: Ending) -> Ending
 }
 
 // Carries out what words ask for, and says on `err` what went wrong.
-fn call<F: Files, O: Sink, E: Sink>(
+fn call<R: Threads + Sync, F: Files, O: Sink, E: Sink, G: Gate + Sync>(
+    rt: &R,
     alloc: Global,
     words: &[String],
     files: &mut F,
     out: &mut O,
     err: &mut E,
+    gate: &G,
 ) -> Ending
     ensures same_files { F.holds files.new ≡ F.holds files.old }
     ensures files_never_fall { F.faults files.old ≤ F.faults files.new }
@@ -120,7 +126,7 @@ fn call<F: Files, O: Sink, E: Sink>(
     let Some(command) = command_in(&options) else {
         return refuse(err, Ending::Usage);
     };
-    let ending = carry_out(alloc, &command, files, out);
+    let ending = carry_out(rt, alloc, &command, files, out, gate);
     report(err, command.names(), &ending);
     ending
 }
@@ -128,15 +134,15 @@ fn call<F: Files, O: Sink, E: Sink>(
 /// Runs the command that `words` ask for, of which the first is the program's name: reads its files
 /// from `files`, writes the text to `out`, and where there is none says why on `err`.
 ///
-/// No thread is started yet, and `gate` isn't told of anything.
+/// `gate` is told of each tree that a search takes. No thread is started yet.
 pub fn run<R: Threads + Sync, F: Files, O: Sink, E: Sink, G: Gate + Sync>(
-    _rt: &R,
+    rt: &R,
     alloc: Global,
     words: &[String],
     files: &mut F,
     out: &mut O,
     err: &mut E,
-    _gate: &G,
+    gate: &G,
 ) -> Status
     // The call ended in one way, with its cause, and says what the sinks took.
     ensures call { (ending : TheEnding) × (result ≡ status_of ending)
@@ -163,5 +169,5 @@ pub fn run<R: Threads + Sync, F: Files, O: Sink, E: Sink, G: Gate + Sync>(
     ensures out_never_falls { O.faults out.old ≤ O.faults out.new }
     ensures err_never_falls { E.faults err.old ≤ E.faults err.new }
 {
-    call(alloc, words, files, out, err).status()
+    call(rt, alloc, words, files, out, err, gate).status()
 }

@@ -26,10 +26,11 @@ use crate::stop::{Failure, File, Reason, Stop};
 use asm_reader::Region;
 use command_words::CoreWord;
 use core_text::{Core, plain_core};
-use sl_base::Files;
+use sl_base::{Files, Gate};
 use sl_isa::{Arch, Instr};
 use state_text::{StateErr, run_on_state};
 use std::alloc::Global;
+use std::thread::Threads;
 
 // What an answer to the files' bytes makes of the call.
 fn ended<T>(answer: Result<T, Failure>) -> Result<T, Ending>
@@ -136,11 +137,13 @@ fn text_of_run<A: Arch, F: Files>(
 }
 
 // The text of a job on a core.
-fn text_of_setting<A: Arch>(
+fn text_of_setting<A: Arch, R: Threads + Sync, G: Gate + Sync>(
     arch: &A,
+    rt: &R,
     alloc: Global,
     job: Job,
     setting: Setting<'_, '_>,
+    gate: &G,
 ) -> Result<Vec<u8>, Failure>
     requires setting { IsSetting A.language (wants_for (shown_job job)) (setting_of setting) }
     ensures { Settles stop_told (λ text. text.items) result
@@ -151,17 +154,19 @@ fn text_of_setting<A: Arch>(
             Ok(text) => Ok(text),
             Err(_) => Err(Failure::NoMemory),
         },
-        Job::Opt(aim) => opt_text(arch, alloc, setting, aim),
+        Job::Opt(aim) => opt_text(arch, rt, alloc, setting, aim, gate),
     }
 }
 
 // The text of a job on a core, from its region.
-fn text_of_region<A: Arch>(
+fn text_of_region<A: Arch, R: Threads + Sync, G: Gate + Sync>(
     arch: &A,
+    rt: &R,
     alloc: Global,
     job: Job,
     core: &Core,
     region: &Region<'_>,
+    gate: &G,
 ) -> Result<Vec<u8>, Ending>
     requires right { IsRegion A.language (wants_for (shown_job job)) (region_of region.now) }
     ensures follows { (seen : Seen) → Follows seen (WorkAnswers A.language)
@@ -171,6 +176,7 @@ fn text_of_region<A: Arch>(
     match region_costs(arch, alloc, core, region) {
         Ok(costs) => ended(text_of_setting(
             arch,
+            rt,
             alloc,
             job,
             Setting {
@@ -178,19 +184,22 @@ fn text_of_region<A: Arch>(
                 region,
                 costs: &costs,
             },
+            gate,
         )),
         Err(failure) => Err(Ending::of(failure)),
     }
 }
 
 // The text of a job on a core, from the bytes of the input, of which there are at most 1048576.
-fn text_of_input<A: Arch>(
+fn text_of_input<A: Arch, R: Threads + Sync, G: Gate + Sync>(
     arch: &A,
+    rt: &R,
     alloc: Global,
     command: &Command<'_>,
     job: Job,
     core: &Core,
     bytes: &[u8],
+    gate: &G,
 ) -> Result<Vec<u8>, Ending>
     requires wanted { wants_of (shown_task command.now.task) ≡ wants_for (shown_job job) }
     requires short { length bytes.now ≤ FILE_BYTES }
@@ -200,19 +209,21 @@ fn text_of_input<A: Arch>(
         (told (λ text. text.items) result) }
 {
     match file_region(arch, alloc, command, bytes) {
-        Ok(region) => text_of_region(arch, alloc, job, core, &region),
+        Ok(region) => text_of_region(arch, rt, alloc, job, core, &region, gate),
         Err(failure) => Err(Ending::of(failure)),
     }
 }
 
 // The text of a job on a core.
-fn text_of_job<A: Arch, F: Files>(
+fn text_of_job<A: Arch, R: Threads + Sync, F: Files, G: Gate + Sync>(
     arch: &A,
+    rt: &R,
     alloc: Global,
     command: &Command<'_>,
     job: Job,
     core: &Core,
     files: &mut F,
+    gate: &G,
 ) -> Result<Vec<u8>, Ending>
     requires wanted { wants_of (shown_task command.now.task) ≡ wants_for (shown_job job) }
     ensures same_files { F.holds files.new ≡ F.holds files.old }
@@ -225,7 +236,7 @@ fn text_of_job<A: Arch, F: Files>(
         (told (λ text. text.items) result) }
 {
     match read_file(alloc, command.names(), File::Input, files) {
-        Ok(bytes) => text_of_input(arch, alloc, command, job, core, &bytes),
+        Ok(bytes) => text_of_input(arch, rt, alloc, command, job, core, &bytes, gate),
         Err(ending) => Err(ending),
     }
 }
@@ -277,13 +288,15 @@ fn core_of_word<A: Arch, F: Files>(
 }
 
 // The text of a job on the core that a word names.
-fn text_on_core<A: Arch, F: Files>(
+fn text_on_core<A: Arch, R: Threads + Sync, F: Files, G: Gate + Sync>(
     arch: &A,
+    rt: &R,
     alloc: Global,
     command: &Command<'_>,
     word: &CoreWord,
     job: Job,
     files: &mut F,
+    gate: &G,
 ) -> Result<Vec<u8>, Ending>
     requires range { IsWholeCore word.now }
     requires wanted { wants_of (shown_task command.now.task) ≡ wants_for (shown_job job) }
@@ -297,17 +310,19 @@ fn text_on_core<A: Arch, F: Files>(
         (told (λ text. text.items) result) }
 {
     match core_of_word(arch, alloc, command, word, files) {
-        Ok(core) => text_of_job(arch, alloc, command, job, &core, files),
+        Ok(core) => text_of_job(arch, rt, alloc, command, job, &core, files, gate),
         Err(ending) => Err(ending),
     }
 }
 
 /// The text of a command, from its files.
-pub fn text_of_files<A: Arch, F: Files>(
+pub fn text_of_files<A: Arch, R: Threads + Sync, F: Files, G: Gate + Sync>(
     arch: &A,
+    rt: &R,
     alloc: Global,
     command: &Command<'_>,
     files: &mut F,
+    gate: &G,
 ) -> Result<Vec<u8>, Ending>
     requires core { HasCore (shown_task command.now.task) }
     ensures same_files { F.holds files.new ≡ F.holds files.old }
@@ -318,7 +333,9 @@ pub fn text_of_files<A: Arch, F: Files>(
         (told (λ text. text.items) result) }
 {
     match command.task {
-        Task::OnCore { core, job } => text_on_core(arch, alloc, command, core, job, files),
+        Task::OnCore { core, job } => text_on_core(
+            arch, rt, alloc, command, core, job, files, gate,
+        ),
         Task::Run { .. } => text_of_run(arch, alloc, command, files),
     }
 }

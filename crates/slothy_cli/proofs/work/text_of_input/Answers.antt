@@ -9,8 +9,8 @@ use Rattle.slothy_cli.specs.Shown.{shown, shown_job}
 use Rattle.slothy_cli.proofs.Follows.{follows-known, follows-refused}
 use Rattle.slothy_cli.proofs.work.text_of_input.Goals as goal
 
-pub text_of_region-requires : goal.text_of_region-requires
-text_of_region-requires g c = record { right = subst (λ w. IsRegion g.A.Arch.language w (region_of c.in-Ok.region)) c.requires.wanted c.in-Ok.ensures.right }
+pub text_of_region-requires-clause-right : goal.text_of_region-requires-clause-right
+text_of_region-requires-clause-right g c = λ κs within. subst (λ w. IsRegion g.A.Arch.language w (region_of c.in-Ok.region)) c.requires.wanted c.in-Ok.ensures.right
 
 pub returns-in-Ok : goal.returns-in-Ok
 returns-in-Ok g c =

@@ -19,8 +19,8 @@ region_costs-requires g c =
     let most : (wants_for (shown_job c.args.job)).limit ≤ ITEMS = job-few (shown_job c.args.job) in
     record { few = omega (arith, c.requires.right.few); valid = c.requires.right.valid }
 
-pub text_of_setting-requires : goal.text_of_setting-requires
-text_of_setting-requires g c = record { setting = c.in-Ok.ensures.setting (wants_for (shown_job c.args.job)) c.requires.right }
+pub text_of_setting-requires-clause-setting : goal.text_of_setting-requires-clause-setting
+text_of_setting-requires-clause-setting g c = λ κs within. c.in-Ok.ensures.setting (wants_for (shown_job c.args.job)) c.requires.right
 
 pub returns-in-Ok : goal.returns-in-Ok
 returns-in-Ok g c =
