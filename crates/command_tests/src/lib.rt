@@ -8,6 +8,8 @@ mod cores;
 #[cfg(test)]
 mod cost;
 #[cfg(test)]
+mod demo;
+#[cfg(test)]
 mod m4;
 #[cfg(test)]
 mod macros;

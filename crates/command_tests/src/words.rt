@@ -43,6 +43,9 @@ opt k.s --core one:2 --max-stalls=255|opt k.s core=one:2 most=255
 opt k.s --core one:2 --budget 1|opt k.s core=one:2 budget=1
 opt k.s --core one:2 --budget 1000000|opt k.s core=one:2
 opt k.s --core one:2 --budget=1000000000|opt k.s core=one:2 budget=1000000000
+demo --core one:1 --key 0 --count 1|demo demo core=one:1 key=0 count=1
+--key=5 --count=3 demo --core=one:2 --arch=arm64|demo demo core=one:2 key=5 count=3
+demo --core solo.toml --key 18446744073709551615 --count 64 --max-stalls 0 --budget 9|demo demo core=solo.toml most=0 budget=9 key=18446744073709551615 count=64
 run k.s --state s.txt|run k.s state=s.txt
 run k.s --state s.txt --turns 0|run k.s state=s.txt turns=0
 run --turns=10000000 --state=-s -- k.s|run k.s state=-s turns=10000000
@@ -61,7 +64,18 @@ Cost k.s --core one:2
 -- cost k.s --core one:2
 check k.s --core one:2
 check k.s --core one:2 --new n.s
-demo --core one:2 --key 0 --count 1
+demo k.s --core one:1 --key 1 --count 1
+demo - --core one:1 --key 1 --count 1
+demo --core one:1 --key 1
+demo --core one:1 --count 1
+demo --key 1 --count 1
+demo --core one:1 --key 1 --count 0
+demo --core one:1 --key 1 --count 65
+demo --core one:1 --key 18446744073709551616 --count 1
+demo --core one:1 --key 1 --count 1 --live x1
+demo --core one:1 --key 1 --count 1 --start a
+demo --core one:1 --key 1 --count 1 --state s
+demo --core one:1 --key 1 --count 1 --arch m4
 opt k.s x --core one:2
 opt k.s --core one:2 -- x
 cost k.s --core one:2 --core one:2
@@ -222,6 +236,7 @@ fn push_task(text: &mut String, options: &Options) -> Result<(), AllocError> {
         Mode::Cost => "cost ",
         Mode::Opt => "opt ",
         Mode::Run => "run ",
+        Mode::Demo => "demo ",
     })?;
     text.push_str(options.input.text())?;
     match &options.core {
@@ -275,6 +290,10 @@ fn push_numbers(text: &mut String, options: &Options) -> Result<(), AllocError> 
     }
     if turns != 1000000 {
         write!(text, " turns={turns}")?;
+    }
+    if let Mode::Demo = options.mode {
+        let (key, count) = (options.key, options.count);
+        write!(text, " key={key} count={count}")?;
     }
     Ok(())
 }

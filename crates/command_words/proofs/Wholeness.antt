@@ -1,24 +1,25 @@
 -- What a command asks for is whole: each number in its range, each name and label there.
-use Rattle.std.proofs.Common.{◌≡◌, ◌≢◌, ◌∙◌, ℕ, ◌≤◌, Bool, true, false, ◌&&◌, ◌||◌, not, is_some, [], ◌∷◌, length, drop, None, Some, Option, Result, Ok, Err, if◌then◌else◌, refl, sym, ap, arith, true≢false, nat_le, eqb}
+use Rattle.std.proofs.Common.{◌≡◌, ◌≢◌, ◌∙◌, ℕ, ◌≤◌, ◌-◌, ◌^◌, Bool, true, false, ◌&&◌, ◌||◌, not, is_some, [], ◌∷◌, length, drop, None, Some, Option, Result, Ok, Err, if◌then◌else◌, refl, sym, ap, arith, true≢false, nat_le, eqb}
 use Rattle.std.specs.Prelude.{IfOk, IfSome, codes, nat_eq}
 use Rattle.std.specs.Char.{is_ascii_alphabetic}
-use Rattle.std.specs.List.{starts_with, list_all}
+use Rattle.std.specs.List.{find, starts_with, list_all}
 use Rattle.std.specs.Str.{bytes_eq}
-use Rattle.std.proofs.lemmas.Bool.{and_parts, leb-true, not-true}
+use Rattle.std.proofs.lemmas.Bool.{leb-true, not-true}
 use Rattle.std.proofs.lemmas.Slice.Eq.{bytes_eq-Decides}
 use Rattle.sl_model.specs.declared.limits.TheConstants.{STALLS, TURNS}
 use Rattle.sl_model.specs.declared.instruction.ArchName.{ArchName}
 use Rattle.sl_model.specs.declared.register.RegSet.{RegSet}
 use Rattle.sl_model.specs.Digits.{decimal_number}
 use Rattle.command_words.specs.declared.options.Mode.{Mode}
-use Rattle.command_words.specs.declared.options.Mode.TheVariants.{Cost, Opt, Run}
+use Rattle.command_words.specs.declared.options.Mode.TheVariants.{Cost, Opt, Run, Demo}
 use Rattle.command_words.specs.declared.options.CoreWord.{CoreWord}
-use Rattle.command_words.specs.declared.options.TheConstants.{LATENCY, MOST_STALLS, TURNS_UNSAID, MOST_BUDGET, BUDGET_UNSAID}
+use Rattle.command_words.specs.declared.options.TheConstants.{LATENCY, MOST_STALLS, TURNS_UNSAID, MOST_BUDGET, MOST_COUNT, BUDGET_UNSAID}
 use Rattle.command_words.specs.Answer.{WrongUse, wrong_use}
-use Rattle.command_words.specs.Command.{within, number_in, number_or, file_name, plain_core, file_core, core_named, core_of, state_of, input_of, is_label, is_label_byte, label_or, two_labels, labels_of, live_of, free_of, mode_by, mode_of, architecture, suited, files_by, registers_by, numbers_by, options_of, register_set}
-use Rattle.command_words.specs.Table.{Text, suits, option_lines}
+use Rattle.command_words.specs.Command.{within, number_in, number_or, file_name, plain_core, file_core, core_named, core_of, state_of, input_named, input_of, is_label, is_label_byte, label_or, two_labels, labels_of, live_of, free_of, mode_by, mode_of, architecture, suited, files_by, registers_by, numbers_by, kernel_by, options_of, register_set}
+use Rattle.command_words.specs.declared.table.Use.TheVariants.{Refused, Required}
+use Rattle.command_words.specs.Table.{Text, OptionLine, line, use_by, keeps, suits, option_lines}
 use Rattle.command_words.specs.Whole.{IsWholeCore, IsListedSet, needs_core, IsWhole}
-use Rattle.command_words.proofs.Steps.{step, anything, let_through, kept_out}
+use Rattle.command_words.proofs.Steps.{step, anything, let_through, kept_out, found-all}
 use Rattle.command_words.proofs.ListedSets.{list-listed, none-listed}
 
 -- ---- numbers
@@ -78,10 +79,17 @@ unfolding state_of
 state-asked None = (refl, tt)
 state-asked (Some word) = step (λ (name : Text). name ≢ []) (IsAsked (λ (name : Text). name ≢ []) (Some word)) (file_name word) _ (name-there word) (λ name is. (refl, is))
 
-input-there : (word : Option Text) → IfOk (input_of word) (λ input. input ≢ [])
+named-there : (word : Option Text) → IfOk (input_named word) (λ input. input ≢ [])
+named-there None = tt
+named-there (Some word) = kept_out (λ (input : Text). input ≢ []) (eqb (length word) 0) (Ok word) (some-text word)
+
+input-there : (mode : Mode) (word : Option Text) → IfOk (input_of mode word) (λ input. input ≢ [])
 unfolding input_of
-input-there None = tt
-input-there (Some word) = kept_out (λ (input : Text). input ≢ []) (eqb (length word) 0) (Ok word) (some-text word)
+input-there Cost word = named-there word
+input-there Opt word = named-there word
+input-there Run word = named-there word
+input-there Demo None = λ e. absurd (cc)
+input-there Demo (Some word) = tt
 
 -- ---- labels
 
@@ -124,32 +132,25 @@ free-listed arch (Some word) = list-listed arch word
 abbrev HasNeeds : (Text → Option Text) → Mode → Type 0
 HasNeeds look mode = (is_some (look (codes "core")) ≡ needs_core mode) × (is_some (look (codes "state")) ≡ not (needs_core mode))
 
-before : (a b : Bool) → (a && b) ≡ true → a ≡ true
-before a b e = (and_parts a b e).0
-
-behind : (a b : Bool) → (a && b) ≡ true → b ≡ true
-behind a b e = (and_parts a b e).1
-
-cost-needs : (core live free stalls budget state turns : Bool) → (core && (not live && (not free && (not stalls && (not budget && (not state && (not turns && true))))))) ≡ true → (core ≡ true) × (state ≡ false)
-cost-needs core live free stalls budget state turns e = (
-  before core _ e,
-  not-true state (before (not state) _ (behind (not budget) _ (behind (not stalls) _ (behind (not free) _ (behind (not live) _ (behind core _ e)))))),
-)
-
-opt-needs : (core state turns : Bool) → (core && (not state && (not turns && true))) ≡ true → (core ≡ true) × (state ≡ false)
-opt-needs core state turns e = (before core _ e, not-true state (before (not state) _ (behind core _ e)))
-
-run-needs : (core live free stalls budget state : Bool) → (not core && (not live && (not free && (not stalls && (not budget && (state && true)))))) ≡ true → (core ≡ false) × (state ≡ true)
-run-needs core live free stalls budget state e = (
-  not-true core (before (not core) _ e),
-  before state _ (behind (not budget) _ (behind (not stalls) _ (behind (not free) _ (behind (not live) _ (behind (not core) _ e))))),
-)
+-- what a mode makes of one of all options
+option-kept : (look : Text → Option Text) (mode : Mode) (name : Text) (found : OptionLine) → find (λ line. bytes_eq line.name name) option_lines ≡ Some found
+    → suits mode look ≡ true → keeps (use_by mode found) (is_some (look found.name)) ≡ true
+unfolding suits option_lines
+option-kept look mode name found is e =
+    found-all (λ line. bytes_eq line.name name) (λ line. keeps (use_by mode line) (is_some (look line.name))) option_lines found e is
 
 needs-met : (look : Text → Option Text) (mode : Mode) → suits mode look ≡ true → HasNeeds look mode
-unfolding suits option_lines
-needs-met look Cost e = cost-needs (is_some (look (codes "core"))) (is_some (look (codes "live"))) (is_some (look (codes "free"))) (is_some (look (codes "max-stalls"))) (is_some (look (codes "budget"))) (is_some (look (codes "state"))) (is_some (look (codes "turns"))) e
-needs-met look Opt e = opt-needs (is_some (look (codes "core"))) (is_some (look (codes "state"))) (is_some (look (codes "turns"))) e
-needs-met look Run e = run-needs (is_some (look (codes "core"))) (is_some (look (codes "live"))) (is_some (look (codes "free"))) (is_some (look (codes "max-stalls"))) (is_some (look (codes "budget"))) (is_some (look (codes "state"))) e
+unfolding option_lines
+needs-met look mode e = go mode
+    (option-kept look mode (codes "core") (line (codes "core") Required Required Refused Required) refl e)
+    (option-kept look mode (codes "state") (line (codes "state") Refused Refused Required Refused) refl e)
+  where
+    go : (mode : Mode) → keeps (use_by mode (line (codes "core") Required Required Refused Required)) (is_some (look (codes "core"))) ≡ true
+        → keeps (use_by mode (line (codes "state") Refused Refused Required Refused)) (is_some (look (codes "state"))) ≡ true → HasNeeds look mode
+    go Cost core state = (core, not-true (is_some (look (codes "state"))) state)
+    go Opt core state = (core, not-true (is_some (look (codes "state"))) state)
+    go Run core state = (not-true (is_some (look (codes "core"))) core, state)
+    go Demo core state = (core, not-true (is_some (look (codes "state"))) state)
 
 mode-needs : (look : Text → Option Text) → IfOk (mode_by look) (HasNeeds look)
 unfolding mode_by suited
@@ -162,10 +163,10 @@ mode-needs look =
 abbrev AreFiles : (Text → Option Text) → Text × Option CoreWord × Option Text → Type 0
 AreFiles look files = (files.0 ≢ []) × IsAsked IsWholeCore (look (codes "core")) files.1 × IsAsked (λ name. name ≢ []) (look (codes "state")) files.2
 
-files-whole : (look : Text → Option Text) → IfOk (files_by look) (AreFiles look)
+files-whole : (mode : Mode) (look : Text → Option Text) → IfOk (files_by mode look) (AreFiles look)
 unfolding files_by
-files-whole look =
-    step (λ (input : Text). input ≢ []) (AreFiles look) (input_of (look (codes "INPUT"))) _ (input-there (look (codes "INPUT")))
+files-whole mode look =
+    step (λ (input : Text). input ≢ []) (AreFiles look) (input_of mode (look (codes "INPUT"))) _ (input-there mode (look (codes "INPUT")))
     (λ input there. step (IsAsked IsWholeCore (look (codes "core"))) (AreFiles look) (core_of (look (codes "core"))) _ (core-asked (look (codes "core")))
     (λ core is. step (IsAsked (λ (name : Text). name ≢ []) (look (codes "state"))) (AreFiles look) (state_of (look (codes "state"))) _ (state-asked (look (codes "state")))
     (λ state of. (there, is, of))))
@@ -190,17 +191,25 @@ numbers-whole look =
     (λ budget some. step (λ (n : ℕ). n ≤ TURNS) AreNumbers (number_or 0 TURNS_UNSAID TURNS (look (codes "turns"))) _ (number-most 0 TURNS_UNSAID TURNS (look (codes "turns")) (omega arith))
     (λ turns less. (few, some, less))))
 
+kernel-whole : (look : Text → Option Text) → IfOk (kernel_by look) (λ kernel. kernel.1 ≤ MOST_COUNT)
+unfolding kernel_by
+kernel-whole look =
+    step (λ (n : ℕ). n ≤ 2 ^ 64 - 1) (λ (kernel : ℕ × ℕ). kernel.1 ≤ MOST_COUNT) (number_or 0 0 (2 ^ 64 - 1) (look (codes "key"))) _ (number-most 0 0 (2 ^ 64 - 1) (look (codes "key")) (omega arith))
+    (λ key less. step (λ (n : ℕ). n ≤ MOST_COUNT) (λ (kernel : ℕ × ℕ). kernel.1 ≤ MOST_COUNT) (number_or 1 1 MOST_COUNT (look (codes "count"))) _ (number-most 1 1 MOST_COUNT (look (codes "count")) (omega arith))
+    (λ count few. few))
+
 -- what is asked for is whole
 pub options-whole : (look : Text → Option Text) → IfOk (options_of look) IsWhole
 unfolding options_of
 options-whole look =
     step (HasNeeds look) IsWhole (mode_by look) _ (mode-needs look)
-    (λ mode needs. step (λ (arch : ArchName). Unit {0}) IsWhole (architecture (look (codes "arch"))) _ (anything (architecture (look (codes "arch"))))
-    (λ arch any. step (AreFiles look) IsWhole (files_by look) _ (files-whole look)
+    (λ mode needs. step (λ (arch : ArchName). Unit {0}) IsWhole (architecture mode (look (codes "arch"))) _ (anything (architecture mode (look (codes "arch"))))
+    (λ arch any. step (AreFiles look) IsWhole (files_by mode look) _ (files-whole mode look)
     (λ files named. step AreLabels IsWhole (labels_of (look (codes "start")) (look (codes "end"))) _ (labels-differ (look (codes "start")) (look (codes "end")))
     (λ labels differ. step AreSets IsWhole (registers_by arch look) _ (registers-whole arch look)
     (λ sets listed. step AreNumbers IsWhole (numbers_by look) _ (numbers-whole look)
-    (λ numbers few. record {
+    (λ numbers few. step (λ (kernel : ℕ × ℕ). kernel.1 ≤ MOST_COUNT) IsWhole (kernel_by look) _ (kernel-whole look)
+    (λ kernel of. record {
       input = named.0;
       needed = named.1.0 ∙ needs.0;
       core = named.1.1;
@@ -214,4 +223,5 @@ options-whole look =
       most = few.0;
       budget = few.1;
       turns = few.2;
-    }))))))
+      count = of;
+    })))))))

@@ -1,6 +1,6 @@
 -- What the words of a command ask for. Source: this project's own command line; names of registers
 -- are those of DDI 0487 (A64) and DDI 0403 (Armv7-M).
-use Rattle.std.specs.Prelude.{ℕ, Bool, true, false, ◌==◌, ◌||◌, nat_eq, nat_le, List, [], ◌∷◌, length, drop, codes, Option, None, Some, Result, Ok, Err, if◌then◌else◌}
+use Rattle.std.specs.Prelude.{ℕ, Bool, true, false, ◌==◌, ◌||◌, ◌-◌, ◌^◌, nat_eq, nat_le, List, [], ◌∷◌, length, drop, codes, Option, None, Some, Result, Ok, Err, if◌then◌else◌}
 use Rattle.std.specs.List.{starts_with, list_all, slice_split}
 use Rattle.std.specs.Str.{bytes_eq}
 use Rattle.std.specs.Char.{is_ascii_alphabetic, is_ascii_alphanumeric}
@@ -16,11 +16,11 @@ use Rattle.sl_model.specs.RegisterNames.{register_in, register_named}
 use Rattle.sl_model.specs.RegSets.{set_of}
 use Rattle.sl_model.specs.ResultSteps.{◌>>=◌}
 use Rattle.command_words.specs.declared.options.Mode.{Mode}
-use Rattle.command_words.specs.declared.options.Mode.TheVariants.{Cost, Opt, Run}
+use Rattle.command_words.specs.declared.options.Mode.TheVariants.{Cost, Opt, Run, Demo}
 use Rattle.command_words.specs.declared.options.CoreWord.{CoreWord}
 use Rattle.command_words.specs.declared.options.CoreWord.TheVariants.{Plain, File}
 use Rattle.command_words.specs.declared.options.Options.{Options}
-use Rattle.command_words.specs.declared.options.TheConstants.{LATENCY, MOST_STALLS, MOST_BUDGET, BUDGET_UNSAID, TURNS_UNSAID}
+use Rattle.command_words.specs.declared.options.TheConstants.{LATENCY, MOST_STALLS, MOST_BUDGET, MOST_COUNT, BUDGET_UNSAID, TURNS_UNSAID}
 use Rattle.command_words.specs.Answer.{WrongUse, wrong_use}
 use Rattle.command_words.specs.Saying.{said_by}
 use Rattle.command_words.specs.Table.{Text, suits}
@@ -127,7 +127,8 @@ abbrev pub mode_named : Text → Result Mode WrongUse
 mode_named word =
     if bytes_eq word (codes "cost") then Ok Cost
     else (if bytes_eq word (codes "opt") then Ok Opt
-    else (if bytes_eq word (codes "run") then Ok Run else Err wrong_use))
+    else (if bytes_eq word (codes "run") then Ok Run
+    else (if bytes_eq word (codes "demo") then Ok Demo else Err wrong_use)))
 
 -- the mode
 unfoldable pub mode_of : Option Text → Result Mode WrongUse
@@ -144,15 +145,38 @@ architecture_named word =
     if bytes_eq word (codes "arm64") then Ok Arm64
     else (if bytes_eq word (codes "m4") then Ok M4 else Err wrong_use)
 
--- the architecture: `arm64` where nothing is said
-unfoldable pub architecture : Option Text → Result ArchName WrongUse
-architecture None = Ok Arm64
-architecture (Some word) = architecture_named word
+-- Has a mode regions of an architecture? The kernel of `demo` is one of AArch64.
+abbrev pub has_regions_of : Mode → ArchName → Bool
+has_regions_of Demo M4 = false
+has_regions_of mode arch = true
 
--- the input: a word that isn't empty
-unfoldable pub input_of : Option Text → Result Text WrongUse
-input_of None = Err wrong_use
-input_of (Some word) = if length word == 0 then Err wrong_use else Ok word
+-- an architecture of which a mode has regions
+abbrev pub architecture_for : Mode → ArchName → Result ArchName WrongUse
+architecture_for mode arch = if has_regions_of mode arch then Ok arch else Err wrong_use
+
+-- the architecture: `arm64` where nothing is said
+unfoldable pub architecture : Mode → Option Text → Result ArchName WrongUse
+architecture mode None = Ok Arm64
+architecture mode (Some word) = do
+  arch ← architecture_named word
+  architecture_for mode arch
+
+-- the name of an input: a word that isn't empty
+abbrev pub input_named : Option Text → Result Text WrongUse
+input_named None = Err wrong_use
+input_named (Some word) = if length word == 0 then Err wrong_use else Ok word
+
+-- no input, for which the kernel of `demo` stands
+abbrev pub no_input : Option Text → Result Text WrongUse
+no_input None = Ok (codes "demo")
+no_input (Some word) = Err wrong_use
+
+-- the input: a word that isn't empty; `demo` takes none
+unfoldable pub input_of : Mode → Option Text → Result Text WrongUse
+input_of Cost word = input_named word
+input_of Opt word = input_named word
+input_of Run word = input_named word
+input_of Demo word = no_input word
 
 -- the core, where one is said
 unfoldable pub core_of : Option Text → Result (Option CoreWord) WrongUse
@@ -200,10 +224,10 @@ mode_by look = do
   suited look mode
 
 -- the files: the input, the core and the state
-unfoldable pub files_by : (Text → Option Text)
+unfoldable pub files_by : Mode → (Text → Option Text)
     → Result (Text × Option CoreWord × Option Text) WrongUse
-files_by look = do
-  input ← input_of (look (codes "INPUT"))
+files_by mode look = do
+  input ← input_of mode (look (codes "INPUT"))
   core ← core_of (look (codes "core"))
   state ← state_of (look (codes "state"))
   Ok (input, core, state)
@@ -224,15 +248,23 @@ numbers_by look = do
   turns ← number_or 0 TURNS_UNSAID TURNS (look (codes "turns"))
   Ok (stalls, budget, turns)
 
+-- the key of a kernel, and how many items it has
+unfoldable pub kernel_by : (Text → Option Text) → Result (ℕ × ℕ) WrongUse
+kernel_by look = do
+  key ← number_or 0 0 (2 ^ 64 - 1) (look (codes "key"))
+  count ← number_or 1 1 MOST_COUNT (look (codes "count"))
+  Ok (key, count)
+
 -- what is asked for by what is said of each name
 unfoldable pub options_of : (Text → Option Text) → Result Options WrongUse
 options_of look = do
   mode ← mode_by look
-  arch ← architecture (look (codes "arch"))
-  files ← files_by look
+  arch ← architecture mode (look (codes "arch"))
+  files ← files_by mode look
   labels ← labels_of (look (codes "start")) (look (codes "end"))
   registers ← registers_by arch look
   numbers ← numbers_by look
+  kernel ← kernel_by look
   Ok (record {
     mode = mode;
     arch = arch;
@@ -246,6 +278,8 @@ options_of look = do
     budget = numbers.1;
     state = files.2;
     turns = numbers.2;
+    key = kernel.0;
+    count = kernel.1;
   })
 
 -- what a command's words ask for, or wrong use

@@ -2,7 +2,7 @@
 use Rattle.std.specs.Prelude.{ℕ, Bool, true, not, is_some, List, [], ◌∷◌, map, codes, Option}
 use Rattle.std.specs.List.{list_all}
 use Rattle.command_words.specs.declared.options.Mode.{Mode}
-use Rattle.command_words.specs.declared.options.Mode.TheVariants.{Cost, Opt, Run}
+use Rattle.command_words.specs.declared.options.Mode.TheVariants.{Cost, Opt, Run, Demo}
 use Rattle.command_words.specs.declared.table.Use.{Use}
 use Rattle.command_words.specs.declared.table.Use.TheVariants.{Refused, Taken, Required}
 
@@ -16,24 +16,28 @@ pub record OptionLine : Type 0 where
   pub cost : Use
   pub opt : Use
   pub run : Use
+  pub demo : Use
 
--- an option with its uses by `cost`, `opt` and `run`
-abbrev pub line : Text → Use → Use → Use → OptionLine
-line name cost opt run = record { name = name; cost = cost; opt = opt; run = run }
+-- an option with its uses by `cost`, `opt`, `run` and `demo`
+abbrev pub line : Text → Use → Use → Use → Use → OptionLine
+line name cost opt run demo =
+    record { name = name; cost = cost; opt = opt; run = run; demo = demo }
 
--- all options: their uses by `cost`, `opt` and `run`
+-- all options: their uses by `cost`, `opt`, `run` and `demo`
 unfoldable pub option_lines : List OptionLine
 option_lines =
-    line (codes "arch") Taken Taken Taken
-    ∷ line (codes "core") Required Required Refused
-    ∷ line (codes "start") Taken Taken Taken
-    ∷ line (codes "end") Taken Taken Taken
-    ∷ line (codes "live") Refused Taken Refused
-    ∷ line (codes "free") Refused Taken Refused
-    ∷ line (codes "max-stalls") Refused Taken Refused
-    ∷ line (codes "budget") Refused Taken Refused
-    ∷ line (codes "state") Refused Refused Required
-    ∷ line (codes "turns") Refused Refused Taken
+    line (codes "arch") Taken Taken Taken Taken
+    ∷ line (codes "core") Required Required Refused Required
+    ∷ line (codes "start") Taken Taken Taken Refused
+    ∷ line (codes "end") Taken Taken Taken Refused
+    ∷ line (codes "live") Refused Taken Refused Refused
+    ∷ line (codes "free") Refused Taken Refused Refused
+    ∷ line (codes "max-stalls") Refused Taken Refused Taken
+    ∷ line (codes "budget") Refused Taken Refused Taken
+    ∷ line (codes "state") Refused Refused Required Refused
+    ∷ line (codes "turns") Refused Refused Taken Refused
+    ∷ line (codes "key") Refused Refused Refused Required
+    ∷ line (codes "count") Refused Refused Refused Required
     ∷ []
 
 -- their names
@@ -45,6 +49,7 @@ abbrev pub use_by : Mode → OptionLine → Use
 use_by Cost line = line.cost
 use_by Opt line = line.opt
 use_by Run line = line.run
+use_by Demo line = line.demo
 
 -- Is a use kept, where the option is said or not?
 abbrev pub keeps : Use → Bool → Bool

@@ -4,4 +4,10 @@ use Rattle.command_words.specs.declared.table.OptionLine.{OptionLine as CodeLine
 
 -- an option's line
 abbrev pub line_value : CodeLine → OptionLine
-line_value line = record { name = line.name.now; cost = line.cost; opt = line.opt; run = line.run }
+line_value line = record {
+  name = line.name.now;
+  cost = line.cost;
+  opt = line.opt;
+  run = line.run;
+  demo = line.demo;
+}

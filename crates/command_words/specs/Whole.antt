@@ -7,11 +7,11 @@ use Rattle.sl_model.specs.declared.register.Reg.{Reg}
 use Rattle.sl_model.specs.declared.register.RegSet.{RegSet}
 use Rattle.sl_model.specs.RegSets.{set_has}
 use Rattle.command_words.specs.declared.options.Mode.{Mode}
-use Rattle.command_words.specs.declared.options.Mode.TheVariants.{Cost, Opt, Run}
+use Rattle.command_words.specs.declared.options.Mode.TheVariants.{Cost, Opt, Run, Demo}
 use Rattle.command_words.specs.declared.options.CoreWord.{CoreWord}
 use Rattle.command_words.specs.declared.options.CoreWord.TheVariants.{Plain, File}
 use Rattle.command_words.specs.declared.options.Options.{Options}
-use Rattle.command_words.specs.declared.options.TheConstants.{LATENCY, MOST_STALLS, MOST_BUDGET}
+use Rattle.command_words.specs.declared.options.TheConstants.{LATENCY, MOST_STALLS, MOST_BUDGET, MOST_COUNT}
 
 -- A latency is from 1 to 255, and the name of a file isn't empty.
 abbrev pub IsWholeCore : CoreWord → Type 0
@@ -34,6 +34,7 @@ abbrev pub needs_core : Mode → Bool
 needs_core Cost = true
 needs_core Opt = true
 needs_core Run = false
+needs_core Demo = true
 
 -- What holds of all that a command asks for.
 pub record IsWhole (o : Options) : Type 0 where
@@ -56,3 +57,4 @@ pub record IsWhole (o : Options) : Type 0 where
   pub most : o.most ≤ MOST_STALLS
   pub budget : o.budget ≤ MOST_BUDGET
   pub turns : o.turns ≤ TURNS
+  pub count : o.count ≤ MOST_COUNT

@@ -23,6 +23,9 @@ pub const BUDGET_UNSAID: u64 = 1000000;
 /// The turns of a loop that a command takes which says nothing of them.
 pub const TURNS_UNSAID: u64 = 1000000;
 
+/// The most items of the kernel of `demo`.
+pub const MOST_COUNT: u64 = 64;
+
 /// What a command does.
 #[derive(Clone, Copy)]
 pub enum Mode {
@@ -32,6 +35,8 @@ pub enum Mode {
     Opt,
     /// Runs the region on a state.
     Run,
+    /// Makes a kernel from two numbers, and says what rescheduling it gains.
+    Demo,
 }
 
 /// The core that a command names.
@@ -51,9 +56,9 @@ pub struct Options {
     pub mode: Mode,
     /// The architecture of the region.
     pub arch: ArchName,
-    /// The name of the file, or `-` for standard input.
+    /// The name of the file, or `-` for standard input; for `demo`, which reads none, `demo`.
     pub input: WordText,
-    /// The core: there is one exactly for `cost` and `opt`.
+    /// The core: there is none exactly for `run`.
     pub core: Option<CoreWord>,
     /// The label at the region's start.
     pub start: WordText,
@@ -71,6 +76,10 @@ pub struct Options {
     pub state: Option<WordText>,
     /// The most turns of a loop that are run: at most 10000000.
     pub turns: u64,
+    /// What the kernel of `demo` is drawn from.
+    pub key: u64,
+    /// How many items it has: at most 64.
+    pub count: u64,
 }
 
 /// Why words were not read.

@@ -16,8 +16,8 @@ use crate::registers::{free_of, live_of};
 use crate::table::{OptionLine, keeps, option_lines, use_by};
 use crate::values::{architecture, core_of, input_of, mode_of, number_or, state_of};
 use crate::{
-    BUDGET_UNSAID, CoreWord, MOST_BUDGET, MOST_STALLS, Mode, Options, TURNS_UNSAID, WordText,
-    WordsErr,
+    BUDGET_UNSAID, CoreWord, MOST_BUDGET, MOST_COUNT, MOST_STALLS, Mode, Options, TURNS_UNSAID,
+    WordText, WordsErr,
 };
 use clap::ArgMatches;
 use sl_isa::{ArchName, RegSet};
@@ -70,12 +70,13 @@ fn mode_by(matches: &ArgMatches<'_>) -> Result<Mode, WordsErr>
 #[tactic(auto, unfolding(crate::specs::Command::files_by))]
 fn files_by(
     alloc: Global,
+    mode: Mode,
     matches: &ArgMatches<'_>,
 ) -> Result<(WordText, Option<CoreWord>, Option<WordText>), WordsErr>
     ensures { Gives usage_of (λ files. files) result
-        (spec.files_by (first_value (found_of matches.now))) }
+        (spec.files_by mode (first_value (found_of matches.now))) }
 {
-    let input = input_of(alloc, matches.get_str("INPUT"))?;
+    let input = input_of(alloc, mode, matches.get_str("INPUT"))?;
     let core = core_of(alloc, matches.get_str("core"))?;
     let state = state_of(alloc, matches.get_str("state"))?;
     Ok((input, core, state))
@@ -113,6 +114,17 @@ fn numbers_by(matches: &ArgMatches<'_>) -> Result<(u32, u64, u64), WordsErr>
     Ok((stalls as u32, budget, turns))
 }
 
+// The key of a kernel, and how many items it has.
+#[tactic(auto, unfolding(crate::specs::Command::kernel_by))]
+fn kernel_by(matches: &ArgMatches<'_>) -> Result<(u64, u64), WordsErr>
+    ensures { Gives usage_of (λ kernel. kernel) result
+        (spec.kernel_by (first_value (found_of matches.now))) }
+{
+    let key = number_or(0, 0, u64::MAX, matches.get_str("key"))?;
+    let count = number_or(1, 1, MOST_COUNT, matches.get_str("count"))?;
+    Ok((key, count))
+}
+
 // What is asked for by what is said of each name.
 #[tactic(auto, unfolding(crate::specs::Command::options_of))]
 fn options_of(alloc: Global, matches: &ArgMatches<'_>) -> Result<Options, WordsErr>
@@ -120,11 +132,12 @@ fn options_of(alloc: Global, matches: &ArgMatches<'_>) -> Result<Options, WordsE
         (spec.options_of (first_value (found_of matches.now))) }
 {
     let mode = mode_by(matches)?;
-    let arch = architecture(matches.get_str("arch"))?;
-    let (input, core, state) = files_by(alloc, matches)?;
+    let arch = architecture(mode, matches.get_str("arch"))?;
+    let (input, core, state) = files_by(alloc, mode, matches)?;
     let (start, end) = labels_of(alloc, matches.get_str("start"), matches.get_str("end"))?;
     let (live, free) = registers_by(alloc, arch, matches)?;
     let (most, budget, turns) = numbers_by(matches)?;
+    let (key, count) = kernel_by(matches)?;
     Ok(Options {
         mode,
         arch,
@@ -138,6 +151,8 @@ fn options_of(alloc: Global, matches: &ArgMatches<'_>) -> Result<Options, WordsE
         budget,
         state,
         turns,
+        key,
+        count,
     })
 }
 

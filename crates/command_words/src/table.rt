@@ -24,36 +24,76 @@ pub(crate) struct OptionLine {
     pub cost: Use,
     pub opt: Use,
     pub run: Use,
+    pub demo: Use,
 }
 
-// An option with its uses by `cost`, `opt` and `run`.
-fn line(name: &'static str, cost: Use, opt: Use, run: Use) -> OptionLine
-    ensures { line_value result ≡ spec.line name.now cost opt run }
+// An option with its uses by `cost`, `opt`, `run` and `demo`.
+fn line(name: &'static str, cost: Use, opt: Use, run: Use, demo: Use) -> OptionLine
+    ensures { line_value result ≡ spec.line name.now cost opt run demo }
 {
     OptionLine {
         name,
         cost,
         opt,
         run,
+        demo,
     }
 }
 
-/// All options, with their uses by `cost`, `opt` and `run`.
+/// All options, with their uses by `cost`, `opt`, `run` and `demo`.
 #[tactic(auto, unfolding(crate::specs::Table::option_lines))]
-pub(crate) fn option_lines() -> [OptionLine; 10]
+pub(crate) fn option_lines() -> [OptionLine; 12]
     ensures { map line_value result ≡ option_lines }
 {
     [
-        line("arch", Use::Taken, Use::Taken, Use::Taken),
-        line("core", Use::Required, Use::Required, Use::Refused),
-        line("start", Use::Taken, Use::Taken, Use::Taken),
-        line("end", Use::Taken, Use::Taken, Use::Taken),
-        line("live", Use::Refused, Use::Taken, Use::Refused),
-        line("free", Use::Refused, Use::Taken, Use::Refused),
-        line("max-stalls", Use::Refused, Use::Taken, Use::Refused),
-        line("budget", Use::Refused, Use::Taken, Use::Refused),
-        line("state", Use::Refused, Use::Refused, Use::Required),
-        line("turns", Use::Refused, Use::Refused, Use::Taken),
+        line("arch", Use::Taken, Use::Taken, Use::Taken, Use::Taken),
+        line(
+            "core",
+            Use::Required,
+            Use::Required,
+            Use::Refused,
+            Use::Required,
+        ),
+        line("start", Use::Taken, Use::Taken, Use::Taken, Use::Refused),
+        line("end", Use::Taken, Use::Taken, Use::Taken, Use::Refused),
+        line("live", Use::Refused, Use::Taken, Use::Refused, Use::Refused),
+        line("free", Use::Refused, Use::Taken, Use::Refused, Use::Refused),
+        line(
+            "max-stalls",
+            Use::Refused,
+            Use::Taken,
+            Use::Refused,
+            Use::Taken,
+        ),
+        line("budget", Use::Refused, Use::Taken, Use::Refused, Use::Taken),
+        line(
+            "state",
+            Use::Refused,
+            Use::Refused,
+            Use::Required,
+            Use::Refused,
+        ),
+        line(
+            "turns",
+            Use::Refused,
+            Use::Refused,
+            Use::Taken,
+            Use::Refused,
+        ),
+        line(
+            "key",
+            Use::Refused,
+            Use::Refused,
+            Use::Refused,
+            Use::Required,
+        ),
+        line(
+            "count",
+            Use::Refused,
+            Use::Refused,
+            Use::Refused,
+            Use::Required,
+        ),
     ]
 }
 
@@ -65,6 +105,7 @@ pub(crate) fn use_by(mode: Mode, line: &OptionLine) -> Use
         Mode::Cost => line.cost,
         Mode::Opt => line.opt,
         Mode::Run => line.run,
+        Mode::Demo => line.demo,
     }
 }
 

@@ -110,11 +110,10 @@ pub(crate) fn state_of(alloc: Global, word: Option<&str>) -> Result<Option<WordT
     Ok(Some(name))
 }
 
-/// The input: a word that isn't empty.
-#[tactic(auto, unfolding(crate::specs::Command::input_of))]
-pub(crate) fn input_of(alloc: Global, word: Option<&str>) -> Result<WordText, WordsErr>
+// The name of an input: a word that isn't empty.
+fn input_named(alloc: Global, word: Option<&str>) -> Result<WordText, WordsErr>
     ensures { Gives usage_of (λ input. input) result
-        (spec.input_of (option_map (λ text. text.now) word.entry)) }
+        (spec.input_named (option_map (λ text. text.now) word.entry)) }
 {
     let Some(word) = word else {
         return Err(WordsErr::Usage);
@@ -124,6 +123,32 @@ pub(crate) fn input_of(alloc: Global, word: Option<&str>) -> Result<WordText, Wo
     }
     let input = WordText::new(alloc, word)?;
     Ok(input)
+}
+
+// No input, for which the kernel of `demo` stands.
+fn no_input(alloc: Global, word: Option<&str>) -> Result<WordText, WordsErr>
+    ensures { Gives usage_of (λ input. input) result
+        (spec.no_input (option_map (λ text. text.now) word.entry)) }
+{
+    if word.is_some() {
+        return Err(WordsErr::Usage);
+    }
+    let input = WordText::new(alloc, "demo")?;
+    Ok(input)
+}
+
+/// The input: a word that isn't empty; `demo` takes none.
+#[tactic(auto, unfolding(crate::specs::Command::input_of))]
+pub(crate) fn input_of(alloc: Global, mode: Mode, word: Option<&str>) -> Result<WordText, WordsErr>
+    ensures { Gives usage_of (λ input. input) result
+        (spec.input_of mode (option_map (λ text. text.now) word.entry)) }
+{
+    match mode {
+        Mode::Cost => input_named(alloc, word),
+        Mode::Opt => input_named(alloc, word),
+        Mode::Run => input_named(alloc, word),
+        Mode::Demo => no_input(alloc, word),
+    }
 }
 
 /// The mode.
@@ -139,22 +164,41 @@ pub(crate) fn mode_of(word: Option<&str>) -> Result<Mode, WordsErr>
         "cost" => Ok(Mode::Cost),
         "opt" => Ok(Mode::Opt),
         "run" => Ok(Mode::Run),
+        "demo" => Ok(Mode::Demo),
         _ => Err(WordsErr::Usage),
     }
 }
 
-/// The architecture: `arm64` where nothing is said.
-#[tactic(auto, unfolding(crate::specs::Command::architecture))]
-pub(crate) fn architecture(word: Option<&str>) -> Result<ArchName, WordsErr>
-    ensures { Gives usage_of (λ arch. arch) result
-        (spec.architecture (option_map (λ text. text.now) word.entry)) }
+// The architecture of a name.
+fn architecture_named(word: &str) -> Result<ArchName, WordsErr>
+    ensures { Gives usage_of (λ arch. arch) result (spec.architecture_named word.now) }
 {
-    let Some(word) = word else {
-        return Ok(ArchName::Arm64);
-    };
     match word {
         "arm64" => Ok(ArchName::Arm64),
         "m4" => Ok(ArchName::M4),
         _ => Err(WordsErr::Usage),
     }
+}
+
+// An architecture of which a mode has regions.
+fn architecture_for(mode: Mode, arch: ArchName) -> Result<ArchName, WordsErr>
+    ensures { Gives usage_of (λ arch. arch) result (spec.architecture_for mode arch) }
+{
+    match (mode, arch) {
+        (Mode::Demo, ArchName::M4) => Err(WordsErr::Usage),
+        _ => Ok(arch),
+    }
+}
+
+/// The architecture: `arm64` where nothing is said, and the only one of `demo`.
+#[tactic(auto, unfolding(crate::specs::Command::architecture))]
+pub(crate) fn architecture(mode: Mode, word: Option<&str>) -> Result<ArchName, WordsErr>
+    ensures { Gives usage_of (λ arch. arch) result
+        (spec.architecture mode (option_map (λ text. text.now) word.entry)) }
+{
+    let Some(word) = word else {
+        return Ok(ArchName::Arm64);
+    };
+    let arch = architecture_named(word)?;
+    architecture_for(mode, arch)
 }

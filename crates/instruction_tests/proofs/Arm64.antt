@@ -1,35 +1,11 @@
--- What is read is an instruction of AArch64, the greatest values fit their registers, and each form below 425 is known.
-use Rattle.std.proofs.Common.{◌≡◌, refl, ℕ, List, ◌^◌, ◌<◌, ◌≤◌, arith, subst, sym, lit<}
-use Rattle.std.specs.Prelude.{Result, Ok, Err, IfOk, OnOk}
+-- The greatest values of AArch64 fit their registers, and each form below 425 is known.
+use Rattle.std.proofs.Common.{◌≡◌, refl, ℕ, ◌^◌, ◌<◌, ◌≤◌, arith, subst, sym, lit<}
 use Rattle.sl_model.specs.declared.register.Bank.{Bank}
 use Rattle.sl_model.specs.declared.register.Bank.TheVariants.{General, Vector, Flags, Stack}
-use Rattle.sl_model.specs.declared.instruction.Instr.{Instr}
-use Rattle.sl_model.specs.Token.{Lexeme}
-use Rattle.sl_isa.specs.Arch.{reason_of}
-use Rattle.sl_isa.specs.Symbols.{Pair}
-use Rattle.sl_isa.specs.Language.{pairs_behind, read_behind, IsNamed}
-use Rattle.sl_isa.proofs.ForCallers.{read_behind-read}
-use Rattle.sl_model.specs.Lawful.{IsValid}
-use Rattle.sl_model.specs.Answers.{Gives}
-use Rattle.sl_isa.specs.declared.reasons.FormErr.{FormErr}
-use Rattle.sl_isa.specs.declared.reasons.FormErr.TheVariants.{Refused, NoMemory}
 use Rattle.form_isa.specs.TableIsa.{table_isa, table_language}
 use Rattle.arm64_table.specs.Document.{each, document}
 use Rattle.arm64_table.specs.Arm64.{arm64}
-use Rattle.arm64_table.specs.Laws.{arm64_lawful}
 use Rattle.sl_model.specs.Machine.{limit_of, space_of}
-
-pub read_is_valid : (answer : Result Instr FormErr) (pairs : List Pair) (words : List Lexeme) → Gives reason_of (λ i. i) answer (read_behind arm64 pairs words)
-    → IfOk answer (λ i. IsValid arm64.isa i)
-read_is_valid (Ok i) pairs words e = (read_behind-read arm64 arm64_lawful pairs words i e).valid
-read_is_valid (Err (Refused reason)) pairs words e = tt
-read_is_valid (Err NoMemory) pairs words e = tt
-
-pub read_is_named : (answer : Result Instr FormErr) (pairs all : List Pair) (words : List Lexeme) → Gives reason_of (λ i. i) answer (read_behind arm64 pairs words)
-    → OnOk answer (all ≡ pairs_behind arm64 pairs words) → IfOk answer (λ i. IsNamed all i)
-read_is_named (Ok i) pairs all words e are = subst (λ ps. IsNamed ps i) (sym are) (read_behind-read arm64 arm64_lawful pairs words i e).named
-read_is_named (Err (Refused reason)) pairs all words e are = tt
-read_is_named (Err NoMemory) pairs all words e are = tt
 
 -- a value below the limit of one bank, where a register is of that bank
 pub in_bank : (wanted bank : Bank) (value : ℕ) → bank ≡ wanted → value < limit_of arm64.isa.name wanted → value < limit_of arm64.isa.name bank

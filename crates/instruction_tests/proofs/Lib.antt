@@ -1,2 +1,4 @@
 mod Arm64
 mod NeverThere
+mod OfM4
+mod ReadForms

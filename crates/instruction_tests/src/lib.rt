@@ -12,6 +12,10 @@ mod classes;
 #[cfg(test)]
 mod form_rows;
 #[cfg(test)]
+mod m4;
+#[cfg(test)]
+mod m4_rows;
+#[cfg(test)]
 mod reading;
 #[cfg(test)]
 mod renamings;

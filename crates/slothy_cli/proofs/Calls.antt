@@ -1,5 +1,5 @@
 -- What the ending of a call says of its status.
-use Rattle.std.proofs.Common.{sym, ◌∙◌, ◌≡◌, ℕ, ◌⊎◌, inl, inr, Bool, true, false, nat_lt, length, List, Option, None, Some, Result, Ok, Err, refl, ap, subst}
+use Rattle.std.proofs.Common.{sym, ◌∙◌, ◌≡◌, ℕ, ◌⊎◌, inl, inr, List, Option, None, Some, Result, Ok, Err, refl, ap, subst}
 use Rattle.std.specs.Prelude.{MatchOption, MatchResult}
 use Rattle.sl_model.specs.declared.instruction.ArchName.{ArchName}
 use Rattle.slothy_cli.specs.declared.stop.File.{File}
@@ -14,18 +14,16 @@ use Rattle.command_words.specs.declared.options.Options.{Options}
 use Rattle.command_words.specs.declared.options.WordsErr.{WordsErr}
 use Rattle.command_words.specs.declared.options.WordsErr.TheVariants as errors
 use Rattle.sl_model.specs.Answers.{Gives}
-use Rattle.slothy_cli.specs.Command.{Aim, Job, cost, opt, Command, command_in, command_by, command_of}
+use Rattle.slothy_cli.specs.Command.{Aim, Job, cost, opt, demo, Command, command_in, command_by, command_of}
 use Rattle.slothy_cli.specs.Setting.{Setting}
 use Rattle.sl_isa.specs.Language.{Language}
 use Rattle.slothy_cli.specs.Languages.{language_of}
 use Rattle.sl_model.specs.declared.schedule.Choice.{Choice}
-use Rattle.search_space.specs.Levels.{Verdict, straight_trees, verdict}
-use Rattle.search_space.specs.Levels.Outcome.{Found, Spent, Nothing}
-use Rattle.search_space.specs.Levels.Verdict.{First, Infeasible as NoneFound}
-use Rattle.bnb_solver.specs.declared.refusal.TheConstants.{TREES}
+use Rattle.sl_model.specs.Legal.{Problem}
 use Rattle.slothy_cli.specs.Plan.{region_problem}
+use Rattle.slothy_cli.specs.Searched.{region_searched}
 use Rattle.slothy_cli.specs.Reads.{outcome}
-use Rattle.slothy_cli.specs.Outcome.{FoundAnswers, TreesAnswer, JobAnswers, Work, scheduling, running, WorkAnswers, command_reads, CommandAnswers}
+use Rattle.slothy_cli.specs.Outcome.{FoundAnswers, KernelAnswers, StopAnswers, JobAnswers, Work, scheduling, running, WorkAnswers, command_reads, CommandAnswers}
 use Rattle.slothy_cli.specs.Messages.{Names, status_of, stop_status, message_of}
 use Rattle.slothy_cli.specs.Ending.{FilesRun, SinkRun, TookNothing, TookFront, Seen, names_of_command, names_given, seen_of, HasCome, AreTold, Comes, Ends, IsWrong, Call, IsStatusOf}
 use Rattle.slothy_cli.proofs.Follows.{AgreesOrFails, follows-no_memory, follows-never, follows-agrees}
@@ -139,18 +137,18 @@ found_alike language aim setting schedule (Ok x) (Ok y) h k = tt
 found_alike language aim setting schedule (Ok x) (Err y) h k = absurd k
 found_alike language aim setting schedule (Err x) b h k = absurd h
 
-opt_alike : (language : Language) (aim : Aim) (setting : Setting) (many : Bool) (v : Verdict) (a b : Result (List ℕ) Stop) → TreesAnswer language aim setting many v a → TreesAnswer language aim setting many v b → AreAlike a b
-opt_alike language aim setting true v a b h k = alike_same a b (h ∙ sym k)
-opt_alike language aim setting false (First level tree (Found schedule)) a b h k = found_alike language aim setting schedule a b h k
-opt_alike language aim setting false (First level tree Spent) a b h k = alike_same a b (h ∙ sym k)
-opt_alike language aim setting false (First level tree Nothing) a b h k = absurd h
-opt_alike language aim setting false NoneFound a b h k = alike_same a b (h.0 ∙ sym k.0)
+searched_alike : (problem : Problem) (most : ℕ) (came : Result (List Choice) Stop) (IsFor : List Choice → Result (List ℕ) Stop → Type 0) (a b : Result (List ℕ) Stop)
+    → ((schedule : List Choice) → IsFor schedule a → IsFor schedule b → AreAlike a b)
+    → MatchResult came (λ schedule. IsFor schedule a) (λ stop. StopAnswers problem most stop a) → MatchResult came (λ schedule. IsFor schedule b) (λ stop. StopAnswers problem most stop b) → AreAlike a b
+searched_alike problem most (Ok schedule) IsFor a b alike h k = alike schedule h k
+searched_alike problem most (Err stop) IsFor a b alike h k = alike_same a b (h.0 ∙ sym k.0)
 
 job_alike : (language : Language) (job : Job) (setting : Setting) (a b : Result (List ℕ) Stop) → JobAnswers language job setting a → JobAnswers language job setting b → AreAlike a b
 job_alike language cost setting a b h k = alike_same a b (h ∙ sym k)
 job_alike language (opt aim) setting a b h k =
-    opt_alike language aim setting (nat_lt TREES (length (straight_trees (region_problem language.isa aim setting))))
-    (verdict (straight_trees (region_problem language.isa aim setting)) aim.most aim.budget) a b h k
+    searched_alike (region_problem language.isa aim setting) aim.most (region_searched language.isa aim setting) (FoundAnswers language aim setting) a b (λ schedule. found_alike language aim setting schedule a b) h k
+job_alike language (demo aim key count) setting a b h k =
+    searched_alike (region_problem language.isa aim setting) aim.most (region_searched language.isa aim setting) (KernelAnswers language aim key count setting) a b (λ schedule h k. alike_same a b (h.1 ∙ sym k.1)) h k
 
 work_alike : (language : Language) (work : Work) (a b : Result (List ℕ) Stop) → WorkAnswers language work a → WorkAnswers language work b → AreAlike a b
 work_alike language (scheduling job setting) a b h k = job_alike language job setting a b h k

@@ -5,4 +5,6 @@ pub mod Calls
 pub mod OptChoices
 pub mod Marks
 pub mod Plans
+pub mod Searched
 pub mod OptAnswer
+pub mod DemoAnswer

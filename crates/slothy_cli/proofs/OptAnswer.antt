@@ -5,21 +5,17 @@ use Rattle.sl_model.specs.declared.instruction.Instr.{Instr}
 use Rattle.sl_model.specs.declared.register.Reg.{Reg}
 use Rattle.sl_model.specs.declared.schedule.Choice.{Choice}
 use Rattle.sl_model.specs.declared.limits.TheConstants.{ITEMS}
-use Rattle.sl_model.specs.Answers.{Settles, RefusesBy}
+use Rattle.sl_model.specs.Answers.{Settles}
 use Rattle.sl_model.specs.Body.{applied}
 use Rattle.sl_model.specs.Graph.{body_of}
 use Rattle.sl_model.specs.Isa.{Isa}
 use Rattle.sl_model.specs.Legal.{Problem, IsFullLegal}
 use Rattle.sl_model.specs.Program.{Leaves}
 use Rattle.sl_model.specs.Program.Program.{Straight}
-use Rattle.sl_model.specs.Space.{InSpace, IsBest}
+use Rattle.sl_model.specs.Space.{IsBest}
 use Rattle.sl_isa.specs.declared.arch.CounterOp.TheVariants.{Sub, Subs}
 use Rattle.sl_isa.specs.Language.{Language, IsLanguage}
 use Rattle.search_space.specs.Searchable.{IsSearchable}
-use Rattle.search_space.specs.Levels.{Verdict, straight_trees, verdict}
-use Rattle.search_space.specs.Levels.Outcome.{Found as FoundSchedule, Spent}
-use Rattle.search_space.specs.Levels.Verdict.{First, Infeasible}
-use Rattle.search_space.proofs.ForCallers.{loses-nothing}
 use Rattle.asm_reader.specs.Notes.{NoteValue}
 use Rattle.asm_reader.specs.Reading.{Region}
 use Rattle.asm_reader.specs.Regions.{AreNamed, is_right_unit}
@@ -29,16 +25,10 @@ use Rattle.renamer.proofs.ForCallers.{straight-leaves, straight-sound, applied-s
 use Rattle.slothy_cli.specs.declared.stop.Stop.{Stop}
 use Rattle.slothy_cli.specs.declared.stop.Failure.{Failure}
 use Rattle.slothy_cli.specs.declared.stop.Failure.TheVariants.{Stopped, NoMemory}
-use Rattle.slothy_cli.specs.Command.{Aim, opt, wants_for}
+use Rattle.slothy_cli.specs.Command.{Aim, region_wants}
+use Rattle.slothy_cli.specs.Outcome.{OptText, FoundAnswers}
+use Rattle.slothy_cli.specs.Searched.{IsBestOf}
 use Rattle.slothy_cli.specs.Setting.{Setting, IsSetting}
-use Rattle.slothy_cli.specs.Outcome.{OptText, OptAnswers, FoundAnswers, VerdictAnswers, TreesAnswer, ForestAnswers, trees_stop, wants_again}
-use Rattle.slothy_cli.specs.declared.stop.Stop.TheVariants.{TooLarge, Budget, Infeasible as NoSchedule}
-use Rattle.slothy_cli.specs.declared.stop.File.TheVariants as files
-use Rattle.slothy_cli.specs.declared.stop.Quantity.TheVariants as quantities
-use Rattle.bnb_solver.specs.Straight.{Straight as TreesOf, IsRefused}
-use Rattle.bnb_solver.specs.declared.refusal.ForestErr.{ForestErr}
-use Rattle.bnb_solver.specs.declared.refusal.ForestErr.TheVariants as refusals
-use Rattle.bnb_solver.specs.declared.refusal.TheConstants.{TREES}
 use Rattle.slothy_cli.specs.Plan.{region_frame, region_problem, plan_of, schedule_file}
 use Rattle.slothy_cli.specs.Shown.{stop_told}
 use Rattle.slothy_cli.proofs.Marks.{applied-marked}
@@ -53,7 +43,7 @@ IsPlanRight setting problem schedule =
 
 -- The written file of the best schedule is the text.
 opt-text : (language : Language) (aim : Aim) (setting : Setting) (schedule : List Choice) (text : List ℕ) → IsLanguage language
-    → IsSetting language (wants_for (opt aim)) setting → IsSearchable (region_problem language.isa aim setting) → IsBest (region_problem language.isa aim setting) aim.most schedule
+    → IsSetting language setting → IsSearchable (region_problem language.isa aim setting) → IsBest (region_problem language.isa aim setting) aim.most schedule
     → IsPlanRight setting (region_problem language.isa aim setting) schedule → text ≡ schedule_file language setting.core setting.region (region_problem language.isa aim setting) schedule → OptText language aim setting schedule text
 opt-text language aim setting schedule text lawful sound searchable best plan is =
     let region : Region = setting.region in
@@ -65,7 +55,7 @@ opt-text language aim setting schedule text lawful sound searchable best plan is
     let spelled = applied-spelled language region.pairs problem schedule lawful (straight-sound language.isa items right.valid) right.spelled best.member.legal in
     let marks = applied-marked language.isa (length region.tags) problem.graph schedule right.marks (legal-known problem searchable schedule best.member.legal) in
     let again =
-    region-reads language wants_again region.pairs region.tags (applied (body_of problem.graph) schedule) (plan_of setting.core problem schedule) (line_end region.parts.before) lawful
+    region-reads language region_wants region.pairs region.tags (applied (body_of problem.graph) schedule) (plan_of setting.core problem schedule) (line_end region.parts.before) lawful
     (omega (arith, length-applied (body_of problem.graph) [] schedule)) spelled right.names marks plan.1 plan.0 (plan-length setting.core problem schedule) (is-line_end region.parts.before) in
     record {
       best = best;
@@ -79,37 +69,14 @@ opt-text language aim setting schedule text lawful sound searchable best plan is
 
 -- Where the text is the written file of the best schedule, it is what is answered where this was found.
 pub written-answers : (language : Language) (aim : Aim) (setting : Setting) (schedule : List Choice) (answer : Result (List ℕ) Stop) → IsLanguage language
-    → IsSetting language (wants_for (opt aim)) setting → IsSearchable (region_problem language.isa aim setting) → IsBest (region_problem language.isa aim setting) aim.most schedule
+    → IsSetting language setting → IsSearchable (region_problem language.isa aim setting) → IsBest (region_problem language.isa aim setting) aim.most schedule
     → IsPlanRight setting (region_problem language.isa aim setting) schedule → answer ≡ Ok (schedule_file language setting.core setting.region (region_problem language.isa aim setting) schedule) → FoundAnswers language aim setting schedule answer
 written-answers language aim setting schedule answer lawful sound searchable best plan is =
     subst (FoundAnswers language aim setting schedule) (sym is)
     (opt-text language aim setting schedule (schedule_file language setting.core setting.region (region_problem language.isa aim setting) schedule) lawful sound searchable best plan refl)
 
--- The schedule that the search found, as it is handed on, with the problem that it is of.
-pub record Found (isa : Isa) (aim : Aim) (setting : Setting) (problem : Problem) (schedule : List Choice) : Type 0 where
-  pub is : problem ≡ region_problem isa aim setting
-  pub searchable : IsSearchable problem
-  pub best : IsBest problem aim.most schedule
-
-pub verdict-found : (isa : Isa) (aim : Aim) (setting : Setting) (searched problem : Problem) (budget level tree : ℕ) (x handed : List Choice)
-    → searched ≡ region_problem isa aim setting → problem ≡ searched → IsSearchable problem → handed ≡ x
-    → verdict (straight_trees searched) aim.most budget ≡ First level tree (FoundSchedule x) → Found isa aim setting problem handed
-verdict-found isa aim setting searched problem budget level tree x handed of same searchable here told =
-    let known : IsSearchable searched = subst IsSearchable same searchable in
-    record {
-      is = same ∙ of;
-      searchable = searchable;
-      best = subst (λ p. IsBest p aim.most handed) (sym same) (subst (IsBest searched aim.most) (sym here) ((loses-nothing searched known aim.most budget).best level tree x told));
-    }
-
--- Where the verdict is that there is none, the space is empty.
-pub verdict-empty : (isa : Isa) (aim : Aim) (setting : Setting) (searched problem : Problem) (budget : ℕ) → searched ≡ region_problem isa aim setting → problem ≡ searched → IsSearchable problem
-    → verdict (straight_trees searched) aim.most budget ≡ Infeasible → (x : List Choice) → InSpace (region_problem isa aim setting) aim.most x → ⊥
-verdict-empty isa aim setting searched problem budget of same searchable told =
-    subst (λ p. (x : List Choice) → InSpace p aim.most x → ⊥) of ((loses-nothing searched (subst IsSearchable same searchable) aim.most budget).none told)
-
 -- It is full and legal, and has as many choices as there are items at most, each of an item and on a unit.
-module _ (isa : Isa) (aim : Aim) (setting : Setting) (problem : Problem) (schedule : List Choice) (found : Found isa aim setting problem schedule) where
+module _ (isa : Isa) (aim : Aim) (setting : Setting) (problem : Problem) (schedule : List Choice) (found : IsBestOf isa aim setting problem schedule) where
   pub found-few : length schedule ≤ length setting.region.items
   found-few = omega (arith, legal-length problem found.searchable schedule found.best.member.legal, ap (λ (p : Problem). length p.graph.items) found.is)
 
@@ -122,7 +89,7 @@ module _ (isa : Isa) (aim : Aim) (setting : Setting) (problem : Problem) (schedu
   pub found-legal : IsFullLegal problem schedule
   found-legal = found.best.member.legal
 
-module _ (language : Language) (aim : Aim) (setting : Setting) (problem : Problem) (schedule : List Choice) (sound : IsSetting language (wants_for (opt aim)) setting) (found : Found language.isa aim setting problem schedule) where
+module _ (language : Language) (aim : Aim) (setting : Setting) (problem : Problem) (schedule : List Choice) (sound : IsSetting language setting) (found : IsBestOf language.isa aim setting problem schedule) where
   -- Its units are the core's.
   pub found-on_core : list_all (λ c. nat_lt c.unit (length setting.core.units)) schedule ≡ true
   found-on_core =
@@ -149,51 +116,3 @@ pub settles-weaken : {X Y : Type 0} (view : X → Y) (r : Result X Failure) (P Q
 settles-weaken view (Ok x) P Q go h = go (Ok (view x)) h
 settles-weaken view (Err (Stopped stop)) P Q go h = go (Err stop) h
 settles-weaken view (Err NoMemory) P Q go h = tt
-
--- ---- by the trees and their verdict
-
--- trees that were refused
-pub refused-forest : (problem : Problem) (budget : ℕ) (e : ForestErr) (o : Option Stop) → o ≡ trees_stop e → IsRefused problem e → RefusesBy o (ForestAnswers problem budget)
-refused-forest problem budget (refusals.TooManyTrees limit) o is r =
-    subst (λ o. RefusesBy o (ForestAnswers problem budget)) (sym is)
-    (ap (λ n. TooLarge files.Input 0 quantities.Trees n) r.0, lt-ltb TREES (length (straight_trees problem)) r.1)
-refused-forest problem budget refusals.NoMemory o is r = subst (λ o. RefusesBy o (ForestAnswers problem budget)) (sym is) tt
-
-module _ (language : Language) (aim : Aim) (setting : Setting) where
-  abbrev whole : Problem
-  whole = region_problem language.isa aim setting
-
-  abbrev its_verdict : Verdict
-  its_verdict = verdict (straight_trees whole) aim.most aim.budget
-
-  -- there are too many
-  pub many-answers : (problem : Problem) (budget : ℕ) → problem ≡ whole → (o : Option Stop) → RefusesBy o (ForestAnswers problem budget) → RefusesBy o (OptAnswers language aim setting)
-  many-answers problem budget is None r = tt
-  many-answers problem budget is (Some stop) r =
-      let many : nat_lt TREES (length (straight_trees whole)) ≡ true = ap (λ p. nat_lt TREES (length (straight_trees p))) (sym is) ∙ r.1 in
-      subst (λ b. TreesAnswer language aim setting b its_verdict (Err stop)) (sym many) (ap Err r.0)
-
-  -- there aren't
-  pub few-answers : (problem : Problem) → problem ≡ whole → nat_lt TREES (length (straight_trees problem)) ≡ false → (answer : Result (List ℕ) Stop)
-      → VerdictAnswers language aim setting its_verdict answer → OptAnswers language aim setting answer
-  few-answers problem is few answer v =
-      let same : nat_lt TREES (length (straight_trees whole)) ≡ false = ap (λ p. nat_lt TREES (length (straight_trees p))) (sym is) ∙ few in
-      subst (λ b. TreesAnswer language aim setting b its_verdict answer) (sym same) v
-
-  -- a schedule was found
-  pub answers-found : (level tree : ℕ) (x handed : List Choice) (answer : Result (List ℕ) Stop) → its_verdict ≡ First level tree (FoundSchedule x) → handed ≡ x
-      → FoundAnswers language aim setting handed answer → VerdictAnswers language aim setting its_verdict answer
-  answers-found level tree x handed answer is here told =
-      subst (λ v. VerdictAnswers language aim setting v answer) (sym is) (subst (λ s. FoundAnswers language aim setting s answer) here told)
-
-  -- the budget was spent
-  pub answers-spent : (level tree : ℕ) → its_verdict ≡ First level tree Spent → VerdictAnswers language aim setting its_verdict (Err (Budget level tree))
-  answers-spent level tree is = subst (λ v. VerdictAnswers language aim setting v (Err (Budget level tree))) (sym is) refl
-
-  -- there is none
-  pub answers-none : its_verdict ≡ Infeasible → ((x : List Choice) → InSpace whole aim.most x → ⊥) → VerdictAnswers language aim setting its_verdict (Err (NoSchedule aim.most))
-  answers-none is empty = subst (λ v. VerdictAnswers language aim setting v (Err (NoSchedule aim.most))) (sym is) (refl, empty)
-
-  -- the verdict of the trees that were searched
-  pub verdict-is : (forest : TreesOf) (v : Verdict) → forest ≡ record { problem = whole; budget = aim.budget } → verdict (straight_trees forest.problem) aim.most forest.budget ≡ v → its_verdict ≡ v
-  verdict-is forest v is told = ap (λ (f : TreesOf). verdict (straight_trees f.problem) aim.most f.budget) (sym is) ∙ told

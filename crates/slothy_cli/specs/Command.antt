@@ -1,5 +1,5 @@
 -- What a command is asked to do. Source: this project's own command line.
-use Rattle.std.specs.Prelude.{ℕ, List, [], Option, None, Some, Result, Ok, Err}
+use Rattle.std.specs.Prelude.{ℕ, ◌≤◌, List, [], Option, None, Some, Result, Ok, Err}
 use Rattle.std.specs.Option.{option_map}
 use Rattle.asm_reader.specs.declared.reasons.Wants.{Wants}
 use Rattle.command_words.specs.Answer.{WrongUse}
@@ -23,10 +23,12 @@ pub record Aim : Type 0 where
   pub most : ℕ
   pub budget : ℕ
 
--- What is done with a region on a core: it is costed as it stands, or rescheduled.
+-- What is done with a region on a core: it is costed as it stands, or rescheduled; or a kernel that
+-- two numbers give is, its key and its number of items.
 pub data Job : Type 0 where
   cost : Job
   opt : Aim → Job
+  demo : Aim → ℕ → ℕ → Job
 
 -- What is to be done: a job on the core that a word names, or a run from the state of a file, of at
 -- most so many turns of a loop.
@@ -50,6 +52,7 @@ aim_in o = record { live = o.live; free = o.free; most = o.most; budget = o.budg
 abbrev pub task_in : Mode → Options → Option Task
 task_in modes.Cost o = option_map (λ core. upon core cost) o.core
 task_in modes.Opt o = option_map (λ core. upon core (opt (aim_in o))) o.core
+task_in modes.Demo o = option_map (λ core. upon core (demo (aim_in o) o.key o.count)) o.core
 task_in modes.Run o = option_map (λ state. emulate state o.turns) o.state
 
 -- the command of options
@@ -68,17 +71,23 @@ command_by (Err wrong) = None
 unfoldable pub command_of : List (List ℕ) → Option Command
 command_of said = command_by (words.command_of said)
 
--- what a job wants of a region: at most 64 items
-abbrev pub wants_for : Job → Wants
-wants_for cost = record { limit = ITEMS }
-wants_for (opt aim) = record { limit = ITEMS }
+-- what is wanted of a region: at most 64 items
+abbrev pub region_wants : Wants
+region_wants = record { limit = ITEMS }
 
--- what a task wants of a region
-abbrev pub wants_of : Task → Wants
-wants_of (upon core job) = wants_for job
-wants_of (emulate state turns) = record { limit = ITEMS }
+-- A kernel has at most 64 items.
+abbrev pub IsRightJob : Job → Type 0
+IsRightJob cost = Unit {0}
+IsRightJob (opt aim) = Unit {0}
+IsRightJob (demo aim key count) = count ≤ ITEMS
 
--- The core's word is in range, where there is one.
+-- the line that is told of an instruction of a job's region: a kernel has no file, and no line
+abbrev pub line_for : Job → ℕ → ℕ
+line_for cost line = line
+line_for (opt aim) line = line
+line_for (demo aim key count) line = 0
+
+-- The core's word is in range, where there is one, and so is the job.
 abbrev pub HasCore : Task → Type 0
-HasCore (upon core job) = IsWholeCore core
+HasCore (upon core job) = IsWholeCore core × IsRightJob job
 HasCore (emulate state turns) = Unit {0}

@@ -18,6 +18,12 @@ own_problem isa setting =
     straight_problem isa setting.region.items
     (frame_of setting.region.items None (record { bits = 0 })) setting.costs
 
+-- the stalls of the items as they stand, each on the unit that issues it first
+abbrev pub own_stalls : Isa → Setting → ℕ
+own_stalls isa setting =
+    stalls_of (own_problem isa setting)
+    (own_schedule setting.core (own_problem isa setting))
+
 -- the numbers of an item: its cycle, its unit, its number, and its line in the file
 abbrev pub cost_numbers : ℕ → List ℕ → ℕ → ℕ → List ℕ
 cost_numbers cycle unit item line =

@@ -25,7 +25,7 @@ use Rattle.slothy_cli.specs.declared.stop.Stop.{Stop}
 use Rattle.slothy_cli.specs.declared.stop.Stop.TheVariants.{CoreRefused, Refused, TooLarge}
 use Rattle.slothy_cli.specs.declared.stop.File.{File}
 use Rattle.slothy_cli.specs.declared.stop.File.TheVariants as files
-use Rattle.slothy_cli.specs.Command.{Command, wants_of}
+use Rattle.slothy_cli.specs.Command.{Command, Job, line_for, region_wants}
 
 -- a core, or its refusal as a reason to stop
 abbrev pub core_or : Result CoreTable core_text.Refusal → Result CoreTable Stop
@@ -78,7 +78,7 @@ region_or (Err refusal) = Err (stop_at refusal.line refusal.reason)
 -- the region of a text, between the markers of a command
 abbrev pub region_from : Language → Command → List ℕ → Result Region Stop
 region_from language c text =
-    region_or (text_region language (wants_of c.task) c.start c.end text)
+    region_or (text_region language region_wants c.start c.end text)
 
 -- the region of a command's file with these bytes
 unfoldable pub file_region : Language → Command → List ℕ → Result Region Stop
@@ -87,14 +87,16 @@ file_region language c bytes = do
   region_from language c text
 
 -- what the items of a region cost; or the first whose class has no entry, as a reason to stop
-abbrev pub costs_or : Region → Result CostTable Lacking → Result CostTable Stop
-costs_or region (Ok costs) = Ok costs
-costs_or region (Err lacking) =
-    Err (Refused files.Input (item_at region.items lacking.item).line reasons.ClassMissing)
+abbrev pub costs_or : Job → Region → Result CostTable Lacking → Result CostTable Stop
+costs_or job region (Ok costs) = Ok costs
+costs_or job region (Err lacking) =
+    Err (Refused files.Input (line_for job (item_at region.items lacking.item).line)
+    reasons.ClassMissing)
 
--- what the items of a region cost on a core
-unfoldable pub region_costs : Language → CoreTable → Region → Result CostTable Stop
-region_costs language core region = costs_or region (costs_of core language.isa region.items)
+-- what the items of a job's region cost on a core
+unfoldable pub region_costs : Language → Job → CoreTable → Region → Result CostTable Stop
+region_costs language job core region =
+    costs_or job region (costs_of core language.isa region.items)
 
 -- the text that a run leaves, or the first bad line of the state file
 abbrev pub state_or : Result (List ℕ) ℕ → Result (List ℕ) Stop

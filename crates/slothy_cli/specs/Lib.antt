@@ -5,6 +5,8 @@ pub mod Setting
 pub mod CostText
 pub mod Plan
 pub mod Inputs
+pub mod Searched
+pub mod DemoLine
 pub mod Outcome
 pub mod Messages
 pub mod NamesShown

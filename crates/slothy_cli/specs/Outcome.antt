@@ -3,21 +3,17 @@ use Rattle.std.specs.Prelude.{ℕ, Bool, ◌≡◌, nat_lt, length, List, Option
 use Rattle.sl_model.specs.declared.schedule.Choice.{Choice}
 use Rattle.sl_model.specs.State.{State}
 use Rattle.sl_model.specs.Exec.{touches}
-use Rattle.sl_model.specs.Space.{InSpace, IsBest}
+use Rattle.sl_model.specs.Space.{IsBest, stalls_of}
 use Rattle.sl_model.specs.Program.{TagsHoldOf, Leaves}
 use Rattle.sl_model.specs.Program.Program.{Straight}
 use Rattle.sl_model.specs.Machine.{space_of}
-use Rattle.sl_model.specs.declared.limits.TheConstants.{ITEMS}
 use Rattle.sl_isa.specs.Language.{Language}
 use Rattle.sl_isa.specs.declared.arch.CounterOp.TheVariants.{Sub, Subs}
-use Rattle.asm_reader.specs.declared.reasons.Wants.{Wants}
 use Rattle.asm_reader.specs.Reading.{Progress, Region, region_alone}
 use Rattle.slothy_cli.specs.declared.stop.Stop.{Stop}
 use Rattle.slothy_cli.specs.declared.stop.Stop.TheVariants as stops
 use Rattle.slothy_cli.specs.declared.stop.Quantity.TheVariants as quantities
-use Rattle.search_space.specs.Levels.{Verdict, straight_trees, verdict}
-use Rattle.search_space.specs.Levels.Outcome.{Found, Spent, Nothing}
-use Rattle.search_space.specs.Levels.Verdict.{First, Infeasible}
+use Rattle.search_space.specs.Levels.{straight_trees}
 use Rattle.bnb_solver.specs.declared.refusal.TheConstants.{TREES}
 use Rattle.bnb_solver.specs.Straight.{Straight as TreesOf}
 use Rattle.bnb_solver.specs.declared.refusal.ForestErr.{ForestErr}
@@ -29,16 +25,15 @@ use Rattle.command_words.specs.declared.options.CoreWord.{CoreWord}
 use Rattle.command_words.specs.declared.options.CoreWord.TheVariants as cores
 use Rattle.core_text.specs.Core.{CoreTable}
 use Rattle.core_text.specs.Plain.{plain_core}
-use Rattle.slothy_cli.specs.Command.{Aim, Job, cost, opt, Task, upon, emulate, Command}
+use Rattle.slothy_cli.specs.Command.{Aim, Job, cost, opt, demo, Task, upon, emulate, Command, region_wants}
 use Rattle.slothy_cli.specs.Setting.{Setting}
 use Rattle.slothy_cli.specs.Reads.{Reads, Given, ◌>>=◌, bytes_of, given, outcome}
 use Rattle.slothy_cli.specs.Inputs.{file_core, file_region, region_costs, run_answer}
 use Rattle.slothy_cli.specs.Plan.{region_frame, region_problem, schedule_text, schedule_file}
-use Rattle.slothy_cli.specs.CostText.{cost_text}
-
--- what is asked of the written region, which is read by itself
-abbrev pub wants_again : Wants
-wants_again = record { limit = ITEMS }
+use Rattle.slothy_cli.specs.CostText.{cost_text, own_stalls}
+use Rattle.slothy_cli.specs.DemoLine.{demo_line}
+use Rattle.slothy_cli.specs.Searched.{too_many_trees, region_searched, IsEmptySpace}
+use Rattle.demo_kernel.specs.Kernel.{kernel_text}
 
 -- The text of `opt`: the written file of a schedule, which is the best of the space; and its region,
 -- read by itself, leaves what the old one leaves, from every state.
@@ -49,7 +44,7 @@ pub record OptText (language : Language) (aim : Aim) (setting : Setting)
       ≡ schedule_file language setting.core setting.region
       (region_problem language.isa aim setting) schedule
   pub new : Progress
-  pub reads : region_alone language wants_again
+  pub reads : region_alone language region_wants
       (schedule_text language setting.core setting.region
       (region_problem language.isa aim setting) schedule)
       ≡ Ok new
@@ -64,35 +59,34 @@ abbrev pub FoundAnswers : Language → Aim → Setting → List Choice → Resul
 FoundAnswers language aim setting schedule (Ok text) = OptText language aim setting schedule text
 FoundAnswers language aim setting schedule (Err stop) = ⊥
 
--- What is answered to a verdict: the text of the schedule that was found; or where the budget was
--- spent; or that there is no schedule, and then the space is empty.
-abbrev pub VerdictAnswers : Language → Aim → Setting → Verdict → Result (List ℕ) Stop → Type 0
-VerdictAnswers language aim setting (First level tree (Found schedule)) answer =
-    FoundAnswers language aim setting schedule answer
-VerdictAnswers language aim setting (First level tree Spent) answer =
-    answer ≡ Err (stops.Budget level tree)
-VerdictAnswers language aim setting (First level tree Nothing) answer = ⊥
-VerdictAnswers language aim setting Infeasible answer =
-    (answer ≡ Err (stops.Infeasible aim.most))
-    × ((schedule : List Choice)
-    → InSpace (region_problem language.isa aim setting) aim.most schedule → ⊥)
+-- what is answered where a search finds no schedule: why; and where that is because none has so few
+-- stalls, the space is empty
+abbrev pub StopAnswers : Problem → ℕ → Stop → Result (List ℕ) Stop → Type 0
+StopAnswers problem most stop answer =
+    (answer ≡ Err stop) × (stop ≡ stops.Infeasible most → IsEmptySpace problem most)
 
--- the reason to stop of a search with too many trees
-abbrev pub too_many_trees : Stop
-too_many_trees = stops.TooLarge files.Input 0 quantities.Trees TREES
-
--- the same where there are too many trees, or not
-abbrev pub TreesAnswer : Language → Aim → Setting → Bool → Verdict → Result (List ℕ) Stop → Type 0
-TreesAnswer language aim setting true found answer = answer ≡ Err too_many_trees
-TreesAnswer language aim setting false found answer =
-    VerdictAnswers language aim setting found answer
-
--- what `opt` answers to a region on a core, by the trees of its problem and their verdict
+-- what `opt` answers to a region on a core, by what the search of its problem gives
 abbrev pub OptAnswers : Language → Aim → Setting → Result (List ℕ) Stop → Type 0
 OptAnswers language aim setting answer =
-    TreesAnswer language aim setting
-    (nat_lt TREES (length (straight_trees (region_problem language.isa aim setting))))
-    (verdict (straight_trees (region_problem language.isa aim setting)) aim.most aim.budget) answer
+    MatchResult (region_searched language.isa aim setting)
+    (λ schedule. FoundAnswers language aim setting schedule answer)
+    (λ stop. StopAnswers (region_problem language.isa aim setting) aim.most stop answer)
+
+-- What is answered to a kernel where a schedule was found: it is the best, and the line has the stalls
+-- of the region as it stands, and those of this schedule.
+abbrev pub KernelAnswers : Language → Aim → ℕ → ℕ → Setting → List Choice → Result (List ℕ) Stop
+    → Type 0
+KernelAnswers language aim key count setting schedule answer =
+    IsBest (region_problem language.isa aim setting) aim.most schedule
+    × (answer ≡ Ok (demo_line key count (own_stalls language.isa setting)
+    (stalls_of (region_problem language.isa aim setting) schedule)))
+
+-- what `demo` answers to a kernel on a core, by what the search of its problem gives
+abbrev pub DemoAnswers : Language → Aim → ℕ → ℕ → Setting → Result (List ℕ) Stop → Type 0
+DemoAnswers language aim key count setting answer =
+    MatchResult (region_searched language.isa aim setting)
+    (λ schedule. KernelAnswers language aim key count setting schedule answer)
+    (λ stop. StopAnswers (region_problem language.isa aim setting) aim.most stop answer)
 
 -- what a problem's trees are made into: a forest, unless there are too many
 abbrev pub ForestAnswers : Problem → ℕ → Result TreesOf Stop → Type 0
@@ -112,6 +106,8 @@ trees_stop refusals.NoMemory = None
 abbrev pub JobAnswers : Language → Job → Setting → Result (List ℕ) Stop → Type 0
 JobAnswers language cost setting answer = answer ≡ Ok (cost_text language setting)
 JobAnswers language (opt aim) setting answer = OptAnswers language aim setting answer
+JobAnswers language (demo aim key count) setting answer =
+    DemoAnswers language aim key count setting answer
 
 -- What is left to be done once the files are read: a job on a core, or to run a region on the bytes
 -- of a state file.
@@ -145,14 +141,25 @@ input_reads language c next input = do
 -- a job on a region and a core, once it is known what the region costs
 abbrev pub setting_reads : Language → Job → CoreTable → Region → Reads Work
 setting_reads language job core region = do
-  costs ← given (region_costs language core region)
+  costs ← given (region_costs language job core region)
   Given (scheduling job (record { core = core; region = region; costs = costs }))
 
--- what a job on a core reads, and what is left to be done
-abbrev pub job_reads : Language → Command → Job → CoreTable → Reads Work
-job_reads language c job core = do
-  input ← bytes_of files.Input
+-- the text with the region of a job: that of its file, or the kernel that it is given
+abbrev pub input_for : Job → Reads (List ℕ)
+input_for cost = bytes_of files.Input
+input_for (opt aim) = bytes_of files.Input
+input_for (demo aim key count) = Given (kernel_text key count)
+
+-- what a job on a core reads, and what is left to be done, where its region is in the text that is
+-- read first
+abbrev pub region_reads : Language → Command → Job → CoreTable → Reads (List ℕ) → Reads Work
+region_reads language c job core text = do
+  input ← text
   input_reads language c (setting_reads language job core) input
+
+-- the same where it is known which text that is
+abbrev pub job_reads : Language → Command → Job → CoreTable → Reads Work
+job_reads language c job core = region_reads language c job core (input_for job)
 
 -- the same of a job on the core that a word names
 abbrev pub on_core_reads : Language → Command → CoreWord → Job → Reads Work

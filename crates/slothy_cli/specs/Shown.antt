@@ -16,7 +16,7 @@ use Rattle.slothy_cli.specs.declared.command.Task.TheVariants as task
 use Rattle.slothy_cli.specs.declared.setting.Setting as code
 use Rattle.asm_reader.specs.RegionViews.{region_of}
 use Rattle.slothy_cli.specs.declared.stop.File.{File}
-use Rattle.slothy_cli.specs.Command.{Aim, Job, cost, opt, Task, upon, emulate, Command}
+use Rattle.slothy_cli.specs.Command.{Aim, Job, cost, opt, demo, Task, upon, emulate, Command}
 use Rattle.slothy_cli.specs.Setting.{Setting}
 use Rattle.slothy_cli.specs.Reads.{too_long}
 
@@ -29,6 +29,7 @@ shown_aim aim =
 abbrev pub shown_job : jobs.Job → Job
 shown_job job.Cost = cost
 shown_job (job.Opt aim) = opt (shown_aim aim)
+shown_job (job.Demo aim key count) = demo (shown_aim aim) key count
 
 -- a task without where its words lie in memory
 abbrev pub shown_task : tasks.Task → Task

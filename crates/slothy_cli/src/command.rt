@@ -1,16 +1,14 @@
 //! What a command is asked to do.
 ghost use Rattle.std.specs.Prelude.{◌≡◌, option_map, IfSome};
 ghost use Rattle.command_words.specs.Whole.{IsWhole, IsWholeCore};
-ghost use Rattle.slothy_cli.specs.Command.{HasCore, upon, wants_for, wants_of, task_in, command_in};
+ghost use Rattle.slothy_cli.specs.Command.{HasCore, IsRightJob, upon, line_for, aim_in, task_in, command_in};
 ghost use Rattle.slothy_cli.specs.Ending.{core_name, state_name, names_of_command};
 ghost use Rattle.slothy_cli.specs.NamesShown.{names_of};
-ghost use Rattle.slothy_cli.specs.Shown.{shown, shown_job, shown_task};
+ghost use Rattle.slothy_cli.specs.Shown.{shown, shown_aim, shown_job, shown_task};
 
 use crate::files::Names;
-use asm_reader::Wants;
 use command_words::{CoreWord, Mode, Options};
 use sl_isa::ArchName;
-use sl_model::limits::ITEMS;
 use sl_model::register::RegSet;
 
 /// What `opt` is asked for.
@@ -33,20 +31,20 @@ pub enum Job {
     Cost,
     /// Writes the file with the region rescheduled.
     Opt(Aim),
+    /// Says what rescheduling a kernel gains, which has at most 64 items and is drawn from a key.
+    Demo { aim: Aim, key: u64, count: u64 },
 }
 
 impl Job {
-    /// What is wanted of a region: at most 64 instructions.
-    pub fn wants(self) -> Wants
-        ensures { result ≡ wants_for (shown_job self) }
+    /// The line that is told of an instruction on a line of the job's region: a kernel has no file,
+    /// and no line.
+    pub fn line(self, line: u32) -> u32
+        ensures { result ≡ line_for (shown_job self) line }
     {
         match self {
-            Job::Cost => Wants {
-                limit: ITEMS as u16,
-            },
-            Job::Opt(_) => Wants {
-                limit: ITEMS as u16,
-            },
+            Job::Cost => line,
+            Job::Opt(_) => line,
+            Job::Demo { .. } => 0,
         }
     }
 }
@@ -61,18 +59,6 @@ pub enum Task<'a> {
 }
 
 impl<'a> Task<'a> {
-    /// What is wanted of a region.
-    pub fn wants(&self) -> Wants
-        ensures { result ≡ wants_of (shown_task self.now) }
-    {
-        match self {
-            Task::OnCore { job, .. } => job.wants(),
-            Task::Run { .. } => Wants {
-                limit: ITEMS as u16,
-            },
-        }
-    }
-
     // The name of the core's file; empty where none is read.
     fn core_name(&self) -> &'a str
         ensures { result.now ≡ core_name (shown_task self.now) }
@@ -125,9 +111,22 @@ impl<'a> Command<'a> {
     }
 }
 
+// What `opt` and `demo` are asked for.
+fn aim_in(options: &Options) -> Aim
+    ensures { shown_aim result ≡ aim_in options.now }
+{
+    Aim {
+        live: options.live,
+        free: options.free,
+        most: options.most,
+        budget: options.budget,
+    }
+}
+
 // A job on the core of options, which is in range.
 fn on_core(options: &Options, job: Job) -> Option<Task<'_>>
-    requires { IsWhole options.now }
+    requires whole { IsWhole options.now }
+    requires job { IsRightJob (shown_job job) }
     ensures value { option_map shown_task result
         ≡ option_map (λ core. upon core (shown_job job)) options.now.core }
     ensures range { IfSome result (λ task. HasCore (shown_task task)) }
@@ -146,14 +145,14 @@ fn task_in(options: &Options) -> Option<Task<'_>>
 {
     match options.mode {
         Mode::Cost => on_core(options, Job::Cost),
-        Mode::Opt => on_core(
+        Mode::Opt => on_core(options, Job::Opt(aim_in(options))),
+        Mode::Demo => on_core(
             options,
-            Job::Opt(Aim {
-                live: options.live,
-                free: options.free,
-                most: options.most,
-                budget: options.budget,
-            }),
+            Job::Demo {
+                aim: aim_in(options),
+                key: options.key,
+                count: options.count,
+            },
         ),
         Mode::Run => {
             let Some(state) = &options.state else {

@@ -1,13 +1,13 @@
 //! The text of `cost`: when a core issues each item of a region.
 
-ghost use Rattle.std.specs.Prelude.{◌≡◌, ◌<◌, ◌++◌, nat_lt, length, IfOk, OnOk, IsTrue};
+ghost use Rattle.std.specs.Prelude.{◌≡◌, ◌<◌, ◌≤◌, ◌++◌, nat_lt, length, IfOk, OnOk, IsTrue};
 ghost use Rattle.std.specs.List.{list_all};
 ghost use Rattle.asm_reader.specs.Regions.{AreNamed};
 ghost use Rattle.sl_isa.specs.Language.{IsNamed};
 ghost use Rattle.sl_isa.specs.SymbolViews.{pairs};
 ghost use Rattle.sl_model.specs.Lawful.{IsValid, AreValid};
-ghost use Rattle.slothy_cli.specs.Command.{cost, wants_for};
-ghost use Rattle.slothy_cli.specs.CostText.{cost_numbers, cost_line, cost_lines, cost_head, cost_text};
+ghost use Rattle.sl_model.specs.declared.limits.TheConstants.{ITEMS};
+ghost use Rattle.slothy_cli.specs.CostText.{cost_numbers, cost_line, cost_lines, cost_head, cost_text, own_stalls};
 ghost use Rattle.slothy_cli.specs.Setting.{IsSetting};
 ghost use Rattle.slothy_cli.specs.Shown.{setting_of};
 
@@ -104,6 +104,24 @@ fn push_lines<A: Arch>(
     push_lines(arch, out, symbols, core, items, choices, cycles)
 }
 
+/// The stalls of a region on a core as it stands, of at most 64 items.
+pub fn own_stalls<A: Arch>(
+    arch: &A,
+    alloc: Global,
+    setting: Setting<'_, '_>,
+) -> Result<u32, NoMemory>
+    requires few { length setting.region.now.items.items ≤ ITEMS }
+    requires valid { AreValid A.language.isa setting.region.now.items.items }
+    requires rows { length setting.costs.now.rows ≡ length setting.region.now.items.items }
+    ensures { IfOk result
+        (λ stalls. stalls ≡ own_stalls A.language.isa (setting_of setting.entry)) }
+{
+    let problem = own_problem(arch, alloc, setting)?;
+    let schedule = own_schedule(alloc, setting.core, &problem)?;
+    let times = times_of(alloc, &problem, &schedule)?;
+    Ok(times.stalls)
+}
+
 /// The text of `cost` for a region on a core, of at most 64 items: a line with how many items there
 /// are, the cycles that they take and the stalls among these, and a line for each item, with the
 /// names of its unit and of its symbolic registers.
@@ -113,7 +131,7 @@ pub fn cost_text<A: Arch>(
     alloc: Global,
     setting: Setting<'_, '_>,
 ) -> Result<Vec<u8>, NoMemory>
-    requires { IsSetting A.language (wants_for cost) (setting_of setting) }
+    requires { IsSetting A.language (setting_of setting) }
     ensures { IfOk result (λ text. text.items ≡ cost_text A.language (setting_of setting.entry)) }
 {
     let region = setting.region;

@@ -6,7 +6,7 @@ ghost use Rattle.asm_reader.specs.declared.reasons.Refusal.{Refusal as RefusalVa
 ghost use Rattle.asm_reader.specs.Regions.{IsRegion};
 ghost use Rattle.asm_reader.specs.RegionViews.{region_of};
 ghost use Rattle.sl_model.specs.Answers.{Answers, Gives, Refuses};
-ghost use Rattle.slothy_cli.specs.Command.{wants_of};
+ghost use Rattle.slothy_cli.specs.Command.{region_wants};
 ghost use Rattle.slothy_cli.specs.Inputs.{text_from, expand_stop, stop_at, region_or, region_from, file_region};
 ghost use Rattle.slothy_cli.specs.declared.stop.File.TheVariants.{Input};
 ghost use Rattle.slothy_cli.specs.declared.stop.Stop.TheVariants.{TooLarge};
@@ -15,9 +15,10 @@ ghost use Rattle.sl_model.specs.declared.limits.TheConstants.{FILE_BYTES};
 
 use crate::command::Command;
 use crate::stop::{Failure, File, Quantity, Reason, Stop};
-use asm_reader::{ReadRefusal, Reason as RegionReason, Refusal, Region, read_region};
+use asm_reader::{ReadRefusal, Reason as RegionReason, Refusal, Region, Wants, read_region};
 use macro_expand::ExpandReason;
 use sl_isa::Arch;
+use sl_model::limits::ITEMS;
 use sl_text::{CutRefusal, text_of};
 use std::alloc::Global;
 
@@ -120,9 +121,11 @@ fn region_from<'a, A: Arch>(
     ensures answer { Gives stop_told region_of result
         (region_from A.language (shown command.now) text.now) }
     ensures right { IfOk result
-        (λ region. IsRegion A.language (wants_of (shown_task command.now.task)) (region_of region)) }
+        (λ region. IsRegion A.language region_wants (region_of region)) }
 {
-    let wants = command.task.wants();
+    let wants = Wants {
+        limit: ITEMS as u16,
+    };
     match read_region(arch, alloc, text, command.start, command.end, wants) {
         Ok(region) => Ok(region),
         Err(failure) => Err(failure_of(failure)),
@@ -142,7 +145,7 @@ pub fn file_region<'a, A: Arch>(
     ensures answer { Gives stop_told region_of result
         (file_region A.language (shown command.now) bytes.now) }
     ensures right { IfOk result
-        (λ region. IsRegion A.language (wants_of (shown_task command.now.task)) (region_of region)) }
+        (λ region. IsRegion A.language region_wants (region_of region)) }
 {
     let text = text_from(File::Input, bytes)?;
     region_from(arch, alloc, command, text)

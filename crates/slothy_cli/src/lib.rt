@@ -1,9 +1,11 @@
 //! The command: from words to the bytes on standard output.
 #![tactic(auto)]
 
+mod best;
 mod command;
 mod core_file;
 mod cost;
+mod demo;
 mod files;
 mod input;
 mod opt;

@@ -11,22 +11,18 @@ ghost use Rattle.asm_reader.specs.Regions.{AreNamed, is_right_unit};
 ghost use Rattle.asm_reader.specs.RegionViews.{region_of};
 ghost use Rattle.asm_printer.specs.Printed.{is_whole_plan};
 ghost use Rattle.slothy_cli.specs.Plan as plans;
-ghost use Rattle.slothy_cli.specs.Plan.{schedule_file, region_problem};
-ghost use Rattle.search_space.specs.Levels.{straight_trees, verdict};
-ghost use Rattle.bnb_solver.specs.Solved.{verdict_of};
-ghost use Rattle.slothy_cli.specs.Command.{opt, wants_for};
-ghost use Rattle.slothy_cli.specs.Outcome.{OptAnswers, VerdictAnswers, ForestAnswers, trees_stop};
+ghost use Rattle.slothy_cli.specs.Plan.{schedule_file};
+ghost use Rattle.slothy_cli.specs.Outcome.{OptAnswers};
 ghost use Rattle.slothy_cli.specs.Setting.{IsSetting};
 ghost use Rattle.sl_model.specs.Answers.{Settles};
 ghost use Rattle.slothy_cli.specs.Shown.{shown_aim, setting_of, stop_told};
 
+use crate::best::best_of;
 use crate::command::Aim;
 use crate::plan::plan_of;
-use crate::problem::region_problem;
 use crate::setting::Setting;
-use crate::stop::{Failure, File, Quantity, Stop};
+use crate::stop::Failure;
 use asm_printer::written_text;
-use bnb_solver::{ForestErr, Solution, StraightForest, solve};
 use legal_space::{Choice, Problem, times_of};
 use renamer::apply;
 use sl_base::Gate;
@@ -68,63 +64,6 @@ fn written_file<A: Arch>(
     Ok(text)
 }
 
-// The trees of a problem; there may be too many.
-fn forest_of(alloc: Global, problem: Problem, budget: u64) -> Result<StraightForest, Failure>
-    ensures { Settles stop_told (λ forest. forest) result (ForestAnswers problem budget) }
-{
-    match StraightForest::new(alloc, problem, budget) {
-        Ok(forest) => Ok(forest),
-        Err(error) => Err(refused(error)),
-    }
-}
-
-// Why there is no text where there are no trees.
-fn refused(error: ForestErr) -> Failure
-    ensures { stop_told result ≡ trees_stop error }
-{
-    match error {
-        ForestErr::TooManyTrees { limit } => Failure::Stopped(Stop::TooLarge {
-            file: File::Input,
-            line: 0,
-            quantity: Quantity::Trees,
-            limit: u64::from(limit),
-        }),
-        ForestErr::NoMemory => Failure::NoMemory,
-    }
-}
-
-// What the search of a region's problem came to, as the text or the reason why there is none.
-fn text_of_solution<A: Arch>(
-    arch: &A,
-    alloc: Global,
-    setting: Setting<'_, '_>,
-    aim: Aim,
-    forest: &StraightForest,
-    solution: Solution,
-) -> Result<Vec<u8>, Failure>
-    requires setting { IsSetting A.language (wants_for (opt (shown_aim aim))) (setting_of setting) }
-    requires forest { forest.now ≡ record {
-      problem = region_problem A.language.isa (shown_aim aim) (setting_of setting);
-      budget = aim.budget;
-    } }
-    requires verdict { verdict (straight_trees forest.now.problem) aim.most forest.now.budget
-        ≡ verdict_of solution }
-    ensures { Settles stop_told (λ text. text.items) result
-        (VerdictAnswers A.language (shown_aim aim) (setting_of setting.entry)
-        (verdict (straight_trees (region_problem A.language.isa (shown_aim aim)
-        (setting_of setting.entry))) aim.most aim.budget)) }
-{
-    let problem = forest.problem();
-    problem.is_searchable();
-    match solution {
-        Solution::Found { schedule, .. } => {
-            written_file(arch, alloc, problem, setting, &schedule)
-        }
-        Solution::Spent { level, tree } => Err(Failure::Stopped(Stop::Budget { level, tree })),
-        Solution::Infeasible => Err(Failure::Stopped(Stop::Infeasible { most: aim.most })),
-    }
-}
-
 /// The written file of the best schedule of a region on a core; or that no schedule has few enough
 /// stalls; or where the budget was spent.
 pub fn opt_text<A: Arch, R: Threads + Sync, G: Gate + Sync>(
@@ -135,15 +74,15 @@ pub fn opt_text<A: Arch, R: Threads + Sync, G: Gate + Sync>(
     aim: Aim,
     gate: &G,
 ) -> Result<Vec<u8>, Failure>
-    requires { IsSetting A.language (wants_for (opt (shown_aim aim))) (setting_of setting) }
+    requires setting { IsSetting A.language (setting_of setting) }
     ensures { Settles stop_told (λ text. text.items) result
         (OptAnswers A.language (shown_aim aim) (setting_of setting.entry)) }
 {
-    let problem = region_problem(arch, alloc, setting, aim)?;
-    let forest = match forest_of(alloc, problem, aim.budget) {
-        Ok(forest) => forest,
-        Err(failure) => return Err(failure),
-    };
-    let solution = solve(rt, alloc, &forest, aim.most, gate)?;
-    text_of_solution(arch, alloc, setting, aim, &forest, solution)
+    match best_of(arch, rt, alloc, setting, aim, gate) {
+        Ok(best) => {
+            let problem = best.forest.problem();
+            written_file(arch, alloc, problem, setting, &best.schedule)
+        }
+        Err(failure) => Err(failure),
+    }
 }

@@ -7,16 +7,19 @@ ghost use Rattle.command_words.specs.Whole.{IsWholeCore};
 ghost use Rattle.sl_model.specs.Answers.{Gives, Settles};
 ghost use Rattle.sl_model.specs.Lawful.{IsValid};
 ghost use Rattle.sl_model.specs.declared.limits.TheConstants.{FILE_BYTES};
-ghost use Rattle.slothy_cli.specs.Command.{HasCore, wants_for, wants_of};
+ghost use Rattle.slothy_cli.specs.Command.{HasCore, IsRightJob, region_wants};
 ghost use Rattle.slothy_cli.specs.Ending.{Seen, files_run, seen_of, Follows, Comes};
 ghost use Rattle.slothy_cli.specs.Inputs.{run_answer};
-ghost use Rattle.slothy_cli.specs.Outcome.{JobAnswers, WorkAnswers, core_file_reads, core_reads, setting_reads, input_reads, job_reads, on_core_reads, state_reads, run_reads};
+ghost use Rattle.slothy_cli.specs.Outcome.{JobAnswers, WorkAnswers, core_file_reads, core_reads, setting_reads, input_reads, region_reads, job_reads, on_core_reads, state_reads, run_reads};
+ghost use Rattle.slothy_cli.specs.Reads.{Given, bytes_of};
+ghost use Rattle.demo_kernel.specs.Kernel.{kernel_text};
 ghost use Rattle.slothy_cli.specs.Setting.{IsSetting};
 ghost use Rattle.slothy_cli.specs.Shown.{shown, shown_job, shown_task, setting_of, stop_told, ended, told};
 
 use crate::command::{Command, Job, Task};
 use crate::core_file::{file_core, region_costs};
 use crate::cost::cost_text;
+use crate::demo::demo_text;
 use crate::files::read_file;
 use crate::input::{file_region, text_from};
 use crate::opt::opt_text;
@@ -26,6 +29,7 @@ use crate::stop::{Failure, File, Reason, Stop};
 use asm_reader::Region;
 use command_words::CoreWord;
 use core_text::{Core, plain_core};
+use demo_kernel::kernel_text;
 use sl_base::{Files, Gate};
 use sl_isa::{Arch, Instr};
 use state_text::{StateErr, run_on_state};
@@ -145,7 +149,7 @@ fn text_of_setting<A: Arch, R: Threads + Sync, G: Gate + Sync>(
     setting: Setting<'_, '_>,
     gate: &G,
 ) -> Result<Vec<u8>, Failure>
-    requires setting { IsSetting A.language (wants_for (shown_job job)) (setting_of setting) }
+    requires setting { IsSetting A.language (setting_of setting) }
     ensures { Settles stop_told (λ text. text.items) result
         (JobAnswers A.language (shown_job job) (setting_of setting.entry)) }
 {
@@ -155,6 +159,9 @@ fn text_of_setting<A: Arch, R: Threads + Sync, G: Gate + Sync>(
             Err(_) => Err(Failure::NoMemory),
         },
         Job::Opt(aim) => opt_text(arch, rt, alloc, setting, aim, gate),
+        Job::Demo { aim, key, count } => {
+            demo_text(arch, rt, alloc, setting, aim, key, count, gate)
+        }
     }
 }
 
@@ -168,12 +175,12 @@ fn text_of_region<A: Arch, R: Threads + Sync, G: Gate + Sync>(
     region: &Region<'_>,
     gate: &G,
 ) -> Result<Vec<u8>, Ending>
-    requires right { IsRegion A.language (wants_for (shown_job job)) (region_of region.now) }
+    requires right { IsRegion A.language region_wants (region_of region.now) }
     ensures follows { (seen : Seen) → Follows seen (WorkAnswers A.language)
         (setting_reads A.language (shown_job job) core.now (region_of region.now))
         (told (λ text. text.items) result) }
 {
-    match region_costs(arch, alloc, core, region) {
+    match region_costs(arch, alloc, job, core, region) {
         Ok(costs) => ended(text_of_setting(
             arch,
             rt,
@@ -201,7 +208,6 @@ fn text_of_input<A: Arch, R: Threads + Sync, G: Gate + Sync>(
     bytes: &[u8],
     gate: &G,
 ) -> Result<Vec<u8>, Ending>
-    requires wanted { wants_of (shown_task command.now.task) ≡ wants_for (shown_job job) }
     requires short { length bytes.now ≤ FILE_BYTES }
     ensures follows { (seen : Seen) → Follows seen (WorkAnswers A.language)
         (input_reads A.language (shown command.now)
@@ -211,6 +217,55 @@ fn text_of_input<A: Arch, R: Threads + Sync, G: Gate + Sync>(
     match file_region(arch, alloc, command, bytes) {
         Ok(region) => text_of_region(arch, rt, alloc, job, core, &region, gate),
         Err(failure) => Err(Ending::of(failure)),
+    }
+}
+
+// The text of a job on a core, from the file of its region.
+fn text_of_file<A: Arch, R: Threads + Sync, F: Files, G: Gate + Sync>(
+    arch: &A,
+    rt: &R,
+    alloc: Global,
+    command: &Command<'_>,
+    job: Job,
+    core: &Core,
+    files: &mut F,
+    gate: &G,
+) -> Result<Vec<u8>, Ending>
+    ensures same_files { F.holds files.new ≡ F.holds files.old }
+    ensures never_falls { F.faults files.old ≤ F.faults files.new }
+    ensures follows { Follows
+        (seen_of (shown command.now) (F.holds files.old)
+        (files_run F.faults F.given F.chosen F.broken files.old files.new))
+        (WorkAnswers A.language)
+        (region_reads A.language (shown command.now) (shown_job job) core.now (bytes_of File.Input))
+        (told (λ text. text.items) result) }
+{
+    match read_file(alloc, command.names(), File::Input, files) {
+        Ok(bytes) => text_of_input(arch, rt, alloc, command, job, core, &bytes, gate),
+        Err(ending) => Err(ending),
+    }
+}
+
+// The text of a job on a core, from the kernel of a key and a number of items.
+fn text_of_kernel<A: Arch, R: Threads + Sync, G: Gate + Sync>(
+    arch: &A,
+    rt: &R,
+    alloc: Global,
+    command: &Command<'_>,
+    job: Job,
+    core: &Core,
+    key: u64,
+    count: u64,
+    gate: &G,
+) -> Result<Vec<u8>, Ending>
+    requires few { count ≤ 64 }
+    ensures follows { (seen : Seen) → Follows seen (WorkAnswers A.language)
+        (region_reads A.language (shown command.now) (shown_job job) core.now
+        (Given (kernel_text key count))) (told (λ text. text.items) result) }
+{
+    match kernel_text(alloc, key, count) {
+        Ok(bytes) => text_of_input(arch, rt, alloc, command, job, core, &bytes, gate),
+        Err(_) => Err(Ending::NoMemory),
     }
 }
 
@@ -225,7 +280,7 @@ fn text_of_job<A: Arch, R: Threads + Sync, F: Files, G: Gate + Sync>(
     files: &mut F,
     gate: &G,
 ) -> Result<Vec<u8>, Ending>
-    requires wanted { wants_of (shown_task command.now.task) ≡ wants_for (shown_job job) }
+    requires right { IsRightJob (shown_job job) }
     ensures same_files { F.holds files.new ≡ F.holds files.old }
     ensures never_falls { F.faults files.old ≤ F.faults files.new }
     ensures follows { Follows
@@ -235,9 +290,12 @@ fn text_of_job<A: Arch, R: Threads + Sync, F: Files, G: Gate + Sync>(
         (job_reads A.language (shown command.now) (shown_job job) core.now)
         (told (λ text. text.items) result) }
 {
-    match read_file(alloc, command.names(), File::Input, files) {
-        Ok(bytes) => text_of_input(arch, rt, alloc, command, job, core, &bytes, gate),
-        Err(ending) => Err(ending),
+    match job {
+        Job::Cost => text_of_file(arch, rt, alloc, command, job, core, files, gate),
+        Job::Opt(_) => text_of_file(arch, rt, alloc, command, job, core, files, gate),
+        Job::Demo { key, count, .. } => {
+            text_of_kernel(arch, rt, alloc, command, job, core, key, count, gate)
+        }
     }
 }
 
@@ -299,7 +357,7 @@ fn text_on_core<A: Arch, R: Threads + Sync, F: Files, G: Gate + Sync>(
     gate: &G,
 ) -> Result<Vec<u8>, Ending>
     requires range { IsWholeCore word.now }
-    requires wanted { wants_of (shown_task command.now.task) ≡ wants_for (shown_job job) }
+    requires right { IsRightJob (shown_job job) }
     ensures same_files { F.holds files.new ≡ F.holds files.old }
     ensures never_falls { F.faults files.old ≤ F.faults files.new }
     ensures follows { Follows

@@ -1,16 +1,11 @@
-use Rattle.std.proofs.Common.{subst}
 use Rattle.sl_isa.specs.Language.{Language}
 use Rattle.asm_reader.specs.RegionViews.{region_of}
-use Rattle.asm_reader.specs.Regions.{IsRegion}
 use Rattle.slothy_cli.specs.Command.{Command}
 use Rattle.slothy_cli.specs.Inputs.{file_region}
 use Rattle.slothy_cli.specs.Outcome.{WorkAnswers, setting_reads}
 use Rattle.slothy_cli.specs.Shown.{shown, shown_job}
 use Rattle.slothy_cli.proofs.Follows.{follows-known, follows-refused}
 use Rattle.slothy_cli.proofs.work.text_of_input.Goals as goal
-
-pub text_of_region-requires-clause-right : goal.text_of_region-requires-clause-right
-text_of_region-requires-clause-right g c = λ κs within. subst (λ w. IsRegion g.A.Arch.language w (region_of c.in-Ok.region)) c.requires.wanted c.in-Ok.ensures.right
 
 pub returns-in-Ok : goal.returns-in-Ok
 returns-in-Ok g c =

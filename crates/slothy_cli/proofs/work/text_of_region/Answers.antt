@@ -1,26 +1,15 @@
-use Rattle.std.proofs.Common.{◌≤◌, arith}
-use Rattle.sl_model.specs.declared.limits.TheConstants.{ITEMS}
 use Rattle.sl_isa.specs.Language.{Language}
 use Rattle.asm_reader.specs.RegionViews.{region_of}
 use Rattle.asm_reader.specs.Reading.{Region}
 use Rattle.core_text.specs.Core.{CoreTable}
-use Rattle.slothy_cli.specs.Command.{Job, wants_for}
+use Rattle.slothy_cli.specs.Command.{Job}
 use Rattle.slothy_cli.specs.Inputs.{region_costs}
 use Rattle.slothy_cli.specs.Outcome.{JobAnswers, WorkAnswers, scheduling}
 use Rattle.slothy_cli.specs.Reads.{Given}
 use Rattle.slothy_cli.specs.Setting.{Setting}
 use Rattle.slothy_cli.specs.Shown.{shown_job}
 use Rattle.slothy_cli.proofs.Follows.{follows-known, follows-given, follows-refused, come-settled}
-use Rattle.slothy_cli.proofs.Valid.{job-few}
 use Rattle.slothy_cli.proofs.work.text_of_region.Goals as goal
-
-pub region_costs-requires : goal.region_costs-requires
-region_costs-requires g c =
-    let most : (wants_for (shown_job c.args.job)).limit ≤ ITEMS = job-few (shown_job c.args.job) in
-    record { few = omega (arith, c.requires.right.few); valid = c.requires.right.valid }
-
-pub text_of_setting-requires-clause-setting : goal.text_of_setting-requires-clause-setting
-text_of_setting-requires-clause-setting g c = λ κs within. c.in-Ok.ensures.setting (wants_for (shown_job c.args.job)) c.requires.right
 
 pub returns-in-Ok : goal.returns-in-Ok
 returns-in-Ok g c =
@@ -31,7 +20,7 @@ returns-in-Ok g c =
     let setting : Setting = record { core = core; region = region; costs = c.in-Ok.costs } in
     record {
       follows = λ seen.
-          follows-known seen (WorkAnswers language) (region_costs language core region) (λ costs. Given (scheduling job (record { core = core; region = region; costs = costs }))) c.in-Ok.costs _ c.in-Ok.ensures.costs
+          follows-known seen (WorkAnswers language) (region_costs language job core region) (λ costs. Given (scheduling job (record { core = core; region = region; costs = costs }))) c.in-Ok.costs _ c.in-Ok.ensures.costs
           (follows-given seen (WorkAnswers language) (scheduling job setting) _ (come-settled (λ text. text.items) c.text_of_setting.result c.ended.result (JobAnswers language job setting) c.ended.ensures c.text_of_setting.ensures));
     }
 
@@ -43,5 +32,5 @@ returns-in-Err g c =
     let job : Job = shown_job c.args.job in
     record {
       follows = λ seen.
-          follows-refused seen (WorkAnswers language) (region_costs language core region) (λ costs. Given (scheduling job (record { core = core; region = region; costs = costs }))) c.in-Err.failure c.of.result c.of.ensures c.in-Err.ensures.costs;
+          follows-refused seen (WorkAnswers language) (region_costs language job core region) (λ costs. Given (scheduling job (record { core = core; region = region; costs = costs }))) c.in-Err.failure c.of.result c.of.ensures c.in-Err.ensures.costs;
     }

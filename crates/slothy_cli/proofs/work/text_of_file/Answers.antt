@@ -7,7 +7,7 @@ use Rattle.slothy_cli.specs.Ending.{Seen, Follows, files_run, seen_of}
 use Rattle.slothy_cli.specs.NamesShown.{names_of}
 use Rattle.slothy_cli.specs.Shown.{shown, shown_job, told}
 use Rattle.slothy_cli.proofs.Follows.{follows-read, follows-failed}
-use Rattle.slothy_cli.proofs.work.text_of_job.Goals as goal
+use Rattle.slothy_cli.proofs.work.text_of_file.Goals as goal
 
 pub returns-in-Ok-clause-follows : goal.returns-in-Ok-clause-follows
 returns-in-Ok-clause-follows g c =

@@ -3,8 +3,8 @@ use Rattle.std.proofs.lemmas.Bool.{le-ltb}
 use Rattle.search_space.specs.Levels.{straight_trees}
 use Rattle.bnb_solver.specs.declared.refusal.TheConstants.{TREES}
 use Rattle.slothy_cli.specs.Shown.{stop_told}
-use Rattle.slothy_cli.proofs.OptAnswer.{refused-forest}
-use Rattle.slothy_cli.proofs.opt.forest_of.Goals as goal
+use Rattle.slothy_cli.proofs.Searched.{refused-forest}
+use Rattle.slothy_cli.proofs.best.forest_of.Goals as goal
 
 pub returns-in-Ok : goal.returns-in-Ok
 returns-in-Ok c = (c.in-Ok.ensures.forest, le-ltb TREES (length (straight_trees c.args.problem)) c.in-Ok.ensures.few)
