@@ -1,5 +1,5 @@
 -- A line without its comments, token by token.
-use Rattle.std.proofs.Common.{◌≡◌, ℕ, suc, ◌+◌, ◌<◌, ◌≤◌, Bool, ◌==◌, ◌&&◌, List, [], ◌∷◌, ◌++◌, length, drop, slice_range, get_or, ap, ap₂, sym, ◌∙◌, arith, append_assoc, append-nil, drop-cons}
+use Rattle.std.proofs.Common.{◌≡◌, ℕ, suc, ◌+◌, ◌<◌, ◌≤◌, Bool, ◌==◌, ◌&&◌, List, ◌++◌, length, drop, slice_range, get_or, ap, ap₂, sym, ◌∙◌, arith, append_assoc, append-nil, drop-cons}
 use Rattle.std.proofs.Math.ListN.{drop_of_length-le}
 use Rattle.sl_model.specs.TokenTests.{is_comment}
 use Rattle.sl_text.specs.Tokens.{token_value}

@@ -1,12 +1,12 @@
 -- Bodies expanded piece by piece, and refusals on the way.
-use Rattle.std.proofs.Common.{◌≡◌, ℕ, zero, suc, ◌+◌, ◌-◌, ◌<◌, ◌≤◌, Bool, true, false, cond, eqb, List, [], ◌∷◌, ◌++◌, length, map, drop, get_or, refl, ap, sym, ◌∙◌, subst, arith, drop-cons, codes, Option, Some, None, option_map, Result, Ok, Err}
+use Rattle.std.proofs.Common.{◌≡◌, ℕ, zero, suc, ◌+◌, ◌-◌, ◌<◌, ◌≤◌, Bool, true, false, cond, eqb, List, [], ◌∷◌, ◌++◌, length, map, drop, get_or, refl, ap, sym, ◌∙◌, subst, arith, drop-cons, codes, Option, Some, Result, Ok, Err}
 use Rattle.std.proofs.Math.ListN.{drop_of_length-le}
 use Rattle.std.proofs.lemmas.List.{length-map}
 use Rattle.std.proofs.lemmas.Bool.Decides.{nat_tests}
 use Rattle.std.specs.declared.vec.Vec.{Vec}
 use Rattle.sl_model.specs.Token.{Lexeme}
 use Rattle.macro_expand.specs.Words.{words, arguments, is_empty, is_directive}
-use Rattle.macro_expand.specs.Filled.{Names, value_of, replaced}
+use Rattle.macro_expand.specs.Filled.{Names, replaced}
 use Rattle.macro_expand.specs.Source as source
 use Rattle.sl_model.specs.declared.limits.TheConstants.{EXPANSION_DEPTH}
 use Rattle.sl_model.specs.ResultSteps.{◌>>=◌}

@@ -1,7 +1,6 @@
 -- Arguments put into a body's text, step by step.
-use Rattle.std.proofs.Common.{◌≡◌, ℕ, zero, suc, ◌+◌, ◌-◌, ◌<◌, ◌≤◌, Bool, true, false, not, cond, eqb, nat_eq, List, [], ◌∷◌, ◌++◌, length, map, take, drop, slice_range, get_or, codes, refl, ap, sym, ◌∙◌, subst, arith, append_assoc, append-nil, drop-cons, eq-eqb, ne_eqb, eqb-true, Option, Some, None, option_map, is_some, slice_get, position}
+use Rattle.std.proofs.Common.{◌≡◌, ℕ, zero, suc, ◌+◌, ◌-◌, ◌<◌, ◌≤◌, Bool, true, false, not, cond, eqb, nat_eq, List, [], ◌∷◌, ◌++◌, length, map, take, drop, slice_range, get_or, codes, refl, ap, sym, ◌∙◌, arith, append_assoc, append-nil, drop-cons, ne_eqb, Option, Some, None, option_map, is_some, slice_get, position}
 use Rattle.std.proofs.Math.ListN.{drop_of_length-le}
-use Rattle.std.proofs.lemmas.List.Sums.{prefix_len-le-length}
 use Rattle.std.specs.List.{starts_with, prefix_len, position_from}
 use Rattle.std.proofs.lemmas.Iterator.Adapters.{position_from-zero}
 use Rattle.std.proofs.lemmas.List.{length-map}

@@ -1,5 +1,5 @@
 -- What is kept of a body's text, step by step.
-use Rattle.std.proofs.Common.{◌≡◌, ℕ, zero, suc, ◌+◌, ◌-◌, ◌<◌, ◌≤◌, Bool, true, false, cond, List, [], ◌∷◌, ◌++◌, length, take, drop, slice_range, get_or, refl, ap, sym, ◌∙◌, subst, arith, append_assoc, append-nil, drop-cons, take_all, ⊎_elim}
+use Rattle.std.proofs.Common.{◌≡◌, ℕ, zero, suc, ◌+◌, ◌-◌, ◌<◌, ◌≤◌, true, false, cond, List, [], ◌∷◌, ◌++◌, length, take, drop, slice_range, get_or, refl, ap, sym, ◌∙◌, arith, append_assoc, append-nil, drop-cons, take_all, ⊎_elim}
 use Rattle.std.proofs.lemmas.Bool.{cases_lt}
 use Rattle.std.proofs.lemmas.List.{take_more, length-drop}
 use Rattle.std.proofs.Math.ListN.{drop_of_length-le}

@@ -6,4 +6,5 @@ pub mod KeptLemmas
 pub mod PartLemmas
 pub mod ReadingLemmas
 pub mod RowLemmas
+pub mod SliceLemmas
 pub mod WordLemmas

@@ -1,11 +1,10 @@
 -- Parts of a statement, joined and cut.
-use Rattle.std.proofs.Common.{◌≡◌, ℕ, zero, suc, ◌+◌, ◌-◌, ◌<◌, ◌≤◌, min, List, [], ◌∷◌, ◌++◌, length, take, drop, slice_range, get_or, refl, ap, sym, ◌∙◌, arith, append_assoc, append-nil, cond, eqb, length-drop, drop-cons, Bool, true, false, ◌⊎◌, inl, inr}
+use Rattle.std.proofs.Common.{◌≡◌, ℕ, zero, suc, ◌+◌, ◌-◌, ◌<◌, ◌≤◌, min, List, [], ◌∷◌, ◌++◌, length, take, drop, slice_range, get_or, refl, ap, sym, ◌∙◌, arith, append_assoc, append-nil, length-drop, drop-cons, ◌⊎◌, inl, inr}
 use Rattle.std.proofs.lemmas.List.{take_all}
 use Rattle.std.proofs.Math.ListN.{drop_of_length-le}
 use Rattle.macro_expand.specs.Words.{gap}
 use Rattle.macro_expand.specs.Spelled.{spelled, spelled_part}
 use Rattle.macro_expand.specs.declared.parts.Part.{Part}
-use Rattle.macro_expand.specs.declared.parts.Part.TheVariants as part
 
 pub spelled-append : (xs ys : List Part) → spelled (xs ++ ys) ≡ spelled xs ++ spelled ys
 unfolding spelled

@@ -1,5 +1,5 @@
 -- Statements read one by one, inside and outside definitions.
-use Rattle.std.proofs.Common.{◌≡◌, ℕ, Bool, true, false, cond, List, [], ◌∷◌, ◌++◌, length, map, codes, eqb, Some, None, Result, Ok, Err, refl, ap, sym, ◌∙◌, subst, arith, suc}
+use Rattle.std.proofs.Common.{◌≡◌, ℕ, Bool, true, false, cond, List, [], ◌∷◌, ◌++◌, length, map, codes, Result, Ok, refl, ap, sym, ◌∙◌, subst, arith}
 use Rattle.sl_model.specs.ResultSteps.{◌>>=◌}
 use Rattle.macro_expand.specs.Words.{words, is_directive, is_empty}
 use Rattle.macro_expand.specs.Filled.{kept}

@@ -1,5 +1,5 @@
 -- The words of a statement, its labels and its fields.
-use Rattle.std.proofs.Common.{◌≡◌, ℕ, zero, suc, ◌+◌, ◌-◌, ◌<◌, ◌≤◌, Bool, true, false, not, cond, ◌||◌, ◌&&◌, ⊎_elim, ne_eqb, List, [], ◌∷◌, ◌++◌, length, map, filter, take, drop, slice_range, get_or, refl, ap, sym, ◌∙◌, subst, arith, append_assoc, append-nil, take-append-drop, eqb, eqb-true, eq-eqb, Option, Some, None, MatchOption, Bor, Result, Ok, Err, OnOk}
+use Rattle.std.proofs.Common.{◌≡◌, ℕ, suc, ◌+◌, ◌-◌, ◌<◌, ◌≤◌, Bool, true, false, not, cond, ◌||◌, ◌&&◌, ⊎_elim, ne_eqb, List, [], ◌∷◌, ◌++◌, length, map, filter, take, drop, slice_range, get_or, refl, ap, sym, ◌∙◌, arith, append_assoc, append-nil, take-append-drop, eqb, eqb-true, eq-eqb, Option, Some, None, MatchOption, Bor, Result, Ok, Err, OnOk}
 use Rattle.std.specs.Prelude.{⊤}
 use Rattle.std.proofs.lemmas.List.{take_all, take_more, take_rest, drop_more, map-append}
 use Rattle.std.proofs.lemmas.List.Folds.{list_any-append, list_all-map}

@@ -1,5 +1,6 @@
 pub mod Expansion
 pub mod Region
+pub mod Slices
 pub mod Filled
 pub mod Source
 pub mod Spelled

@@ -1,10 +1,9 @@
 -- A text as a list of rows: where a line begins, its statements without their comments, and its
 -- note.
 -- Source: a profile of GNU as, in which `;` separates the statements of a line.
-use Rattle.std.specs.Prelude.{ℕ, ◌+◌, ◌==◌, Bool, true, false, ◌&&◌, List, [], ◌∷◌, ◌++◌, codes, take, drop, map, slice_range, if◌then◌else◌}
+use Rattle.std.specs.Prelude.{ℕ, ◌==◌, Bool, true, false, ◌&&◌, List, [], ◌∷◌, ◌++◌, codes, take, drop, map, slice_range, if◌then◌else◌}
 use Rattle.std.specs.Str.{str_eq_ignore_ascii_case}
 use Rattle.sl_model.specs.declared.text.Comments.{Comments}
-use Rattle.sl_model.specs.Text.{numbered_lines}
 use Rattle.sl_model.specs.Token.{Lexeme, tokens, open_behind}
 use Rattle.sl_model.specs.TokenTests.{is_comment}
 use Rattle.macro_expand.specs.Words.{gap, end_of, words, divided, between}

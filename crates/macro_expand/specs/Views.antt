@@ -1,5 +1,5 @@
 -- The code's macros, aliases and pieces, as the definitions see them.
-use Rattle.std.specs.Prelude.{ℕ, Bool, List, map, Option, None, Some, option_map, Result}
+use Rattle.std.specs.Prelude.{ℕ, List, map, Option, None, Some, option_map, Result}
 use Rattle.std.specs.HashMap.{get_by_text}
 use Rattle.macro_expand.specs.Filled.{Names}
 use Rattle.macro_expand.specs.Source as source

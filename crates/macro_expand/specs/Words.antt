@@ -2,7 +2,7 @@
 -- feed, which no line holds, stands in it for the comments that were taken off at a place. Such a
 -- gap is a blank that has no byte.
 -- Source: labels, macro arguments and `.req` of GNU as.
-use Rattle.std.specs.Prelude.{ℕ, ◌+◌, ◌==◌, Bool, true, false, not, ◌&&◌, List, [], ◌∷◌, codes, length, map, slice_range, bytes_eq, count_by, Option, None, Some, if◌then◌else◌}
+use Rattle.std.specs.Prelude.{ℕ, ◌+◌, ◌==◌, Bool, true, false, not, List, [], ◌∷◌, codes, length, map, slice_range, bytes_eq, count_by, Option, None, Some, if◌then◌else◌}
 use Rattle.std.specs.List.{list_all}
 use Rattle.std.specs.Str.{str_eq_ignore_ascii_case}
 use Rattle.sl_model.specs.declared.text.Comments.TheVariants.{Taken}

@@ -1,11 +1,13 @@
 //! Statements of a region, and of the expansions of its macros.
-ghost use Rattle.std.specs.Prelude.{◌≡◌, ◌==◌, length, map, None, Some, bytes_eq, option_map, IfOk, OnOk};
+ghost use Rattle.std.specs.Prelude.{◌≡◌, ◌==◌, length, map, None, Some, bytes_eq, option_map, IfOk, IfSome, OnOk};
 ghost use Rattle.sl_text.specs.Tokens.{token_value};
 ghost use Rattle.macro_expand.specs.Source.{Statement, parted};
 ghost use Rattle.macro_expand.specs.Spelled.{lexemes, spelled, spelled_lists, values_in, alias_names};
 ghost use Rattle.sl_model.specs.Answers.{Gives};
 ghost use Rattle.macro_expand.specs.Views.{known_of, what_of, macro_of, macro_names, step_at, run_at, refusal_of};
 ghost use Rattle.macro_expand.specs.Expansion as spec;
+ghost use Rattle.sl_model.specs.Text.{Parts};
+ghost use Rattle.macro_expand.specs.Slices.{AreBody, AreLists, AreMacros, AreSlices, HasSlices, KnowsSlices};
 
 use crate::filled::{Aliases, push_filled, push_replaced};
 use crate::parts::{Part, beginning, joined, push_all, push_cut};
@@ -62,8 +64,9 @@ const SUM_LIMIT: usize = EXPANSION_SUM as usize;
 
 // Adds a piece.
 pub(crate) fn give<'a>(known: &mut Known<'a>, line: u32, what: What<'a>) -> Result<(), AllocError>
-    ensures { OnOk result (known_of known.new ≡ spec.give line (what_of what.entry) (known_of
+    ensures known { OnOk result (known_of known.new ≡ spec.give line (what_of what.entry) (known_of
         known.old)) }
+    ensures slices { (texts : Parts) → HasSlices texts what.entry → KnowsSlices texts known.old → OnOk result (KnowsSlices texts known.new) }
 {
     known.given.push(Piece { line, what })?;
     Ok(())
@@ -71,8 +74,9 @@ pub(crate) fn give<'a>(known: &mut Known<'a>, line: u32, what: What<'a>) -> Resu
 
 // Counts a statement.
 pub(crate) fn count(known: &mut Known<'_>, line: u32, text: &str) -> Result<(), ExpandErr>
-    ensures { Gives refusal_of (λ _. known_of known.new) result (spec.count line text.now
+    ensures known { Gives refusal_of (λ _. known_of known.new) result (spec.count line text.now
         (known_of known.old)) }
+    ensures slices { (texts : Parts) → KnowsSlices texts known.old → OnOk result (KnowsSlices texts known.new) }
 {
     let size = byte_count(text);
     if known.spent > SUM_LIMIT || size >= SUM_LIMIT - known.spent {
@@ -122,8 +126,9 @@ fn set_alias<'a>(
     name: &str,
     value: Vec<Part<'a>>,
 ) -> Result<(), AllocError>
-    ensures { OnOk result (known_of known.new ≡ spec.set_alias name.now (Some (spelled
+    ensures known { OnOk result (known_of known.new ≡ spec.set_alias name.now (Some (spelled
         value.entry.items)) (known_of known.old)) }
+    ensures slices { (texts : Parts) → AreSlices texts value.entry.items → KnowsSlices texts known.old → OnOk result (KnowsSlices texts known.new) }
 {
     let name = String::from_str(alloc, name)?;
     known.aliases.insert(name, value)?;
@@ -138,8 +143,9 @@ pub(crate) fn with_alias<'a>(
     parts: &[Part<'a>],
     words: &[Token<'_>],
 ) -> Result<(), ExpandErr>
-    ensures { Gives refusal_of (λ _. known_of known.new) result (spec.with_alias line (spelled
+    ensures known { Gives refusal_of (λ _. known_of known.new) result (spec.with_alias line (spelled
         parts.now) (lexemes words.now) (known_of known.old)) }
+    ensures slices { (texts : Parts) → AreSlices texts parts.now → KnowsSlices texts known.old → OnOk result (KnowsSlices texts known.new) }
 {
     let [name, _, _, rest @ ..] = words else {
         return Ok(());
@@ -164,7 +170,8 @@ pub(crate) fn with_alias<'a>(
 
 // Makes a name stand for nothing.
 fn end_alias(known: &mut Known<'_>, name: &str)
-    ensures { known_of known.new ≡ spec.set_alias name.now None (known_of known.old) }
+    ensures known { known_of known.new ≡ spec.set_alias name.now None (known_of known.old) }
+    ensures slices { (texts : Parts) → KnowsSlices texts known.old → KnowsSlices texts known.new }
 {
     known.aliases.swap_remove(name);
 }
@@ -176,8 +183,9 @@ pub(crate) fn count_if(
     line: u32,
     text: &str,
 ) -> Result<(), ExpandErr>
-    ensures { Gives refusal_of (λ _. known_of known.new) result (spec.count_if counts line
+    ensures known { Gives refusal_of (λ _. known_of known.new) result (spec.count_if counts line
         text.now (known_of known.old)) }
+    ensures slices { (texts : Parts) → KnowsSlices texts known.old → OnOk result (KnowsSlices texts known.new) }
 {
     if !counts {
         return Ok(());
@@ -193,8 +201,9 @@ pub(crate) fn without_alias(
     text: &str,
     words: &[Token<'_>],
 ) -> Result<(), ExpandErr>
-    ensures { Gives refusal_of (λ _. known_of known.new) result (spec.without_alias counts line
+    ensures known { Gives refusal_of (λ _. known_of known.new) result (spec.without_alias counts line
         text.now (lexemes words.now) (known_of known.old)) }
+    ensures slices { (texts : Parts) → KnowsSlices texts known.old → OnOk result (KnowsSlices texts known.new) }
 {
     let [_dot, unreq, name] = words else {
         return Err(refused(line, ExpandReason::AliasUnknown));
@@ -218,8 +227,9 @@ fn plain<'a>(
     parts: &[Part<'a>],
     words: &[Token<'_>],
 ) -> Result<(), ExpandErr>
-    ensures { Gives refusal_of (λ _. known_of known.new) result (spec.plain line (spelled
+    ensures known { Gives refusal_of (λ _. known_of known.new) result (spec.plain line (spelled
         parts.now) (lexemes words.now) (known_of known.old)) }
+    ensures slices { (texts : Parts) → AreSlices texts parts.now → KnowsSlices texts known.old → OnOk result (KnowsSlices texts known.new) }
 {
     let mut whole = Vec::new(alloc);
     push_replaced(&mut whole, parts, &known.aliases, true, 0, words)?;
@@ -245,8 +255,9 @@ fn uninvoked<'a>(
     words: &[Token<'_>],
 ) -> Result<(), ExpandErr>
     requires { text.now ≡ spelled parts.now }
-    ensures { Gives refusal_of (λ _. known_of known.new) result (spec.uninvoked line (spelled
+    ensures known { Gives refusal_of (λ _. known_of known.new) result (spec.uninvoked line (spelled
         parts.now) (lexemes words.now) (known_of known.old)) }
+    ensures slices { (texts : Parts) → AreSlices texts parts.now → KnowsSlices texts known.old → OnOk result (KnowsSlices texts known.new) }
 {
     if is_alias(words) {
         return with_alias(alloc, known, line, parts, words);
@@ -269,8 +280,9 @@ fn is_label_alone(first: &Token<'_>, rest: &[Token<'_>]) -> bool
 
 // The macro that words invoke.
 pub(crate) fn invoked<'m, 'a>(macros: &'m Macros<'a>, words: &[Token<'_>]) -> Option<&'m Macro<'a>>
-    ensures { option_map (λ found. macro_of found.now) result ≡ spec.invoked (macro_names
+    ensures found { option_map (λ found. macro_of found.now) result ≡ spec.invoked (macro_names
         macros.now) (lexemes words.now) }
+    ensures slices { (texts : Parts) → AreMacros texts macros.now → IfSome result (λ found. AreBody texts found.now.body.items) }
 {
     let [first, rest @ ..] = words else {
         return None;
@@ -306,7 +318,8 @@ pub(crate) fn parted<'a>(
     alloc: Global,
     parts: &[Part<'a>],
 ) -> Result<Vec<Vec<Part<'a>>>, AllocError>
-    ensures { IfOk result (λ lists. spelled_lists lists.items ≡ parted (spelled parts.now)) }
+    ensures text { IfOk result (λ lists. spelled_lists lists.items ≡ parted (spelled parts.now)) }
+    ensures slices { (texts : Parts) → AreSlices texts parts.now → IfOk result (λ lists. AreLists texts lists.items) }
 {
     let text = joined(alloc, parts)?;
     let words = words_of(alloc, &text)?;
@@ -334,8 +347,9 @@ pub(crate) fn statement<'a>(
     parts: &[Part<'a>],
     known: &mut Known<'a>,
 ) -> Result<(), ExpandErr>
-    ensures { Gives refusal_of (λ _. known_of known.new) result
+    ensures known { Gives refusal_of (λ _. known_of known.new) result
         (step_at place.entry unknown (spelled parts.now) (known_of known.old)) }
+    ensures slices { (texts : Parts) → AreMacros texts place.entry.macros.now → AreSlices texts parts.now → KnowsSlices texts known.old → OnOk result (KnowsSlices texts known.new) }
 {
     let text = joined(place.alloc, parts)?;
     let words = words_of(place.alloc, &text)?;
@@ -371,9 +385,10 @@ fn run<'a>(
     body: &[What<'a>],
     known: &mut Known<'a>,
 ) -> Result<(), ExpandErr>
-    ensures { Gives refusal_of (λ _. known_of known.new) result
+    ensures known { Gives refusal_of (λ _. known_of known.new) result
         (run_at place.entry text.now (values_in names.now values.now) (map what_of body.now)
         (known_of known.old)) }
+    ensures slices { (texts : Parts) → AreMacros texts place.entry.macros.now → AreLists texts values.now → AreBody texts body.now → KnowsSlices texts known.old → OnOk result (KnowsSlices texts known.new) }
 {
     if place.deeper == 0 {
         let limit = EXPANSION_DEPTH;
@@ -399,9 +414,10 @@ fn expand_all<'a>(
     body: &[What<'a>],
     known: &mut Known<'a>,
 ) -> Result<(), ExpandErr>
-    ensures { Gives refusal_of (λ _. known_of known.new) result
+    ensures known { Gives refusal_of (λ _. known_of known.new) result
         (spec.expand_all (step_at place.entry) place.entry.line (values_in names.now values.now)
         (map what_of body.now) (known_of known.old)) }
+    ensures slices { (texts : Parts) → AreMacros texts place.entry.macros.now → AreLists texts values.now → AreBody texts body.now → KnowsSlices texts known.old → OnOk result (KnowsSlices texts known.new) }
 {
     for what in body {
         expand_one(place, names, values, what, known)?;
@@ -418,9 +434,10 @@ fn expand_one<'a>(
     what: &What<'a>,
     known: &mut Known<'a>,
 ) -> Result<(), ExpandErr>
-    ensures { Gives refusal_of (λ _. known_of known.new) result
+    ensures known { Gives refusal_of (λ _. known_of known.new) result
         (spec.expand_one (step_at place.entry) place.entry.line (values_in names.now values.now)
         (what_of what.now) (known_of known.old)) }
+    ensures slices { (texts : Parts) → AreMacros texts place.entry.macros.now → AreLists texts values.now → HasSlices texts what.now → KnowsSlices texts known.old → OnOk result (KnowsSlices texts known.new) }
 {
     match what {
         What::Statement(parts) => return expand_statement(place, names, values, parts, known),
@@ -440,9 +457,10 @@ fn expand_statement<'a>(
     parts: &[Part<'a>],
     known: &mut Known<'a>,
 ) -> Result<(), ExpandErr>
-    ensures { Gives refusal_of (λ _. known_of known.new) result
+    ensures known { Gives refusal_of (λ _. known_of known.new) result
         (spec.expand_one (step_at place.entry) place.entry.line (values_in names.now values.now)
         (Statement (spelled parts.now)) (known_of known.old)) }
+    ensures slices { (texts : Parts) → AreMacros texts place.entry.macros.now → AreLists texts values.now → AreSlices texts parts.now → KnowsSlices texts known.old → OnOk result (KnowsSlices texts known.new) }
 {
     let text = joined(place.alloc, parts)?;
     let mut filled = Vec::new(place.alloc);

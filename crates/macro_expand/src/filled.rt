@@ -1,11 +1,13 @@
 //! Arguments put into a macro's body, and aliases replaced in a statement.
-ghost use Rattle.std.specs.Prelude.{◌≡◌, [], ◌+◌, ◌<◌, ◌≤◌, true, ◌++◌, ◌&&◌, ◌||◌, not, length, drop, take, IfOk, OnOk, option_map, string_bytes, map};
+ghost use Rattle.std.specs.Prelude.{◌≡◌, [], ◌+◌, ◌<◌, ◌≤◌, true, ◌++◌, ◌&&◌, ◌||◌, not, length, drop, take, IfOk, IfSome, OnOk, option_map, string_bytes, map};
 ghost use Rattle.std.specs.List.{prefix_len};
 ghost use Rattle.sl_model.specs.Token.{is_word_byte};
 ghost use Rattle.sl_text.specs.Tokens.{token_value};
 ghost use Rattle.sl_model.specs.TokenTests.{is_word};
 ghost use Rattle.macro_expand.specs.Spelled.{lexemes, spelled, spelled_lists, values_in, alias_names, StandsIn};
 ghost use Rattle.macro_expand.specs.Filled as spec;
+ghost use Rattle.sl_model.specs.Text.{Parts};
+ghost use Rattle.macro_expand.specs.Slices.{AreAliases, AreLists, AreSlices};
 
 use crate::parts::{Cursor, Part, beginning, push_all, push_cut};
 use crate::words::{Parameters, end_of};
@@ -49,8 +51,9 @@ fn value_of<'v, 'a>(
     values: &'v [Vec<Part<'a>>],
     name: &[u8],
 ) -> Option<&'v [Part<'a>]>
-    ensures { option_map (λ value. spelled value.now) result
+    ensures value { option_map (λ value. spelled value.now) result
         ≡ values_in names.now values.now name.now }
+    ensures slices { (texts : Parts) → AreLists texts values.now → IfSome result (λ value. AreSlices texts value.now) }
 {
     let Some(place) = names.get_index_of(name) else {
         return None;
@@ -68,8 +71,9 @@ fn push_value<'a>(
     values: &[Vec<Part<'a>>],
     behind: &[u8],
 ) -> Result<(), AllocError>
-    ensures { OnOk result (spelled out.new.items ≡ spelled out.old.items
+    ensures text { OnOk result (spelled out.new.items ≡ spelled out.old.items
         ++ spec.put_for (values_in names.now values.now) 92 behind.now) }
+    ensures slices { (texts : Parts) → AreLists texts values.now → AreSlices texts out.old.items → OnOk result (AreSlices texts out.new.items) }
 {
     if behind.starts_with(b"()") {
         return Ok(());
@@ -118,8 +122,9 @@ fn fill<'a>(
     values: &[Vec<Part<'a>>],
 ) -> Result<(), AllocError>
     requires { text.now ≡ spelled parts.now }
-    ensures { OnOk result (spelled out.new.items ≡ spelled out.old.items
+    ensures text { OnOk result (spelled out.new.items ≡ spelled out.old.items
         ++ spec.filled (values_in names.now values.now) 0 text.now) }
+    ensures slices { (texts : Parts) → AreSlices texts parts.now → AreLists texts values.now → AreSlices texts out.old.items → OnOk result (AreSlices texts out.new.items) }
 {
     let mut cursor = beginning(parts);
     let mut place = 0;
@@ -152,6 +157,7 @@ pub(crate) fn push_filled<'a>(
         ++ spec.filled (values_in names.now values.now) 0 (spelled parts.now)) }
     ensures unknown { IfOk result (λ unknown. unknown ≡ spec.has_unknown (values_in names.now
         values.now) 0 (spelled parts.now)) }
+    ensures slices { (texts : Parts) → AreSlices texts parts.now → AreLists texts values.now → AreSlices texts out.old.items → OnOk result (AreSlices texts out.new.items) }
 {
     fill(out, parts, text, names, values)?;
     Ok(has_unknown(text, names, values))
@@ -186,8 +192,9 @@ pub(crate) fn push_kept<'a>(
     text: &[u8],
 ) -> Result<(), AllocError>
     requires { text.now ≡ spelled parts.now }
-    ensures { OnOk result (spelled out.new.items
+    ensures text { OnOk result (spelled out.new.items
         ≡ spelled out.old.items ++ spec.kept 0 (spelled parts.now)) }
+    ensures slices { (texts : Parts) → AreSlices texts parts.now → AreSlices texts out.old.items → OnOk result (AreSlices texts out.new.items) }
 {
     let mut cursor = beginning(parts);
     let mut place = 0;
@@ -237,7 +244,8 @@ fn is_kept(first: bool, before: &str, token: &Token<'_>) -> bool
 
 // What a name is an alias for.
 fn alias_value<'v, 'a>(aliases: &'v Aliases<'a>, name: &str) -> Option<&'v [Part<'a>]>
-    ensures { option_map (λ value. spelled value.now) result ≡ alias_names aliases.now name.now }
+    ensures value { option_map (λ value. spelled value.now) result ≡ alias_names aliases.now name.now }
+    ensures slices { (texts : Parts) → AreAliases texts aliases.now → IfSome result (λ value. AreSlices texts value.now) }
 {
     match aliases.get(name) {
         Some(value) => Some(value),
@@ -256,6 +264,7 @@ fn push_place<'a>(
     ensures place { OnOk result (spelled out.new.items
         ≡ spelled out.old.items ++ spec.at_place (spelled parts.now) (token_value token.now)) }
     ensures stands { IfOk result (λ next. StandsIn parts.now next) }
+    ensures slices { (texts : Parts) → AreSlices texts parts.now → AreSlices texts out.old.items → OnOk result (AreSlices texts out.new.items) }
 {
     push_cut(out, parts, cursor, token.start as usize, end_of(token))
 }
@@ -275,6 +284,7 @@ fn push_word<'a>(
         ++ spec.put_for_word (alias_names aliases.now) (spelled parts.now) first before.now
         (token_value token.now)) }
     ensures stands { IfOk result (λ next. StandsIn parts.now next) }
+    ensures slices { (texts : Parts) → AreSlices texts parts.now → AreAliases texts aliases.now → AreSlices texts out.old.items → OnOk result (AreSlices texts out.new.items) }
 {
     if is_kept(first, before, token) {
         return push_place(out, parts, cursor, token);
@@ -307,9 +317,10 @@ pub(crate) fn push_replaced<'a>(
     place: usize,
     words: &[Token<'_>],
 ) -> Result<(), AllocError>
-    ensures { OnOk result (spelled out.new.items ≡ spelled out.old.items
+    ensures text { OnOk result (spelled out.new.items ≡ spelled out.old.items
         ++ spec.replaced (alias_names aliases.now) (spelled parts.now) first [] place (lexemes
         words.now)) }
+    ensures slices { (texts : Parts) → AreSlices texts parts.now → AreAliases texts aliases.now → AreSlices texts out.old.items → OnOk result (AreSlices texts out.new.items) }
 {
     let mut first = first;
     let mut last = "";

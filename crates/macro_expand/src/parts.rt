@@ -2,6 +2,8 @@
 ghost use Rattle.std.specs.Prelude.{◌≡◌, ◌+◌, ◌≤◌, ◌++◌, length, slice_range, IfOk, OnOk};
 ghost use Rattle.std.specs.String.{string_bytes};
 ghost use Rattle.macro_expand.specs.Spelled as spec;
+ghost use Rattle.sl_model.specs.Text.{Parts};
+ghost use Rattle.macro_expand.specs.Slices.{AreSlices, IsSlice, IsSliceIn};
 
 use std::alloc::{AllocError, Global};
 
@@ -55,8 +57,9 @@ pub(crate) fn push_slice<'a>(
     from: usize,
     to: usize,
 ) -> Result<(), AllocError>
-    ensures { OnOk result (spec.spelled out.new.items ≡ spec.spelled out.old.items ++
+    ensures text { OnOk result (spec.spelled out.new.items ≡ spec.spelled out.old.items ++
         slice_range slice.now from to) }
+    ensures slices { (texts : Parts) → IsSliceIn texts slice.now → AreSlices texts out.old.items → OnOk result (AreSlices texts out.new.items) }
 {
     let Some(piece) = slice.get(from..to) else {
         return Err(AllocError);
@@ -70,8 +73,9 @@ pub(crate) fn push_slice<'a>(
 
 // Adds a gap, if it stands between two places.
 fn push_gap(out: &mut Vec<Part<'_>>, from: usize, to: usize) -> Result<(), AllocError>
-    ensures { OnOk result (spec.spelled out.new.items ≡ spec.spelled out.old.items ++
+    ensures text { OnOk result (spec.spelled out.new.items ≡ spec.spelled out.old.items ++
         slice_range (spec.spelled_part Part.Gap) from to) }
+    ensures slices { (texts : Parts) → AreSlices texts out.old.items → OnOk result (AreSlices texts out.new.items) }
 {
     if from == 0 && to > 0 {
         out.push(Part::Gap)?;
@@ -86,8 +90,9 @@ fn push_piece<'a>(
     from: usize,
     to: usize,
 ) -> Result<(), AllocError>
-    ensures { OnOk result (spec.spelled out.new.items ≡ spec.spelled out.old.items ++
+    ensures text { OnOk result (spec.spelled out.new.items ≡ spec.spelled out.old.items ++
         slice_range (spec.spelled_part part.now) from to) }
+    ensures slices { (texts : Parts) → IsSlice texts part.now → AreSlices texts out.old.items → OnOk result (AreSlices texts out.new.items) }
 {
     match *part {
         Part::Text(slice) => push_slice(out, slice, from, to),
@@ -150,6 +155,7 @@ pub(crate) fn push_cut<'a>(
     ensures cut { OnOk result (spec.spelled out.new.items
         ≡ spec.spelled out.old.items ++ slice_range (spec.spelled parts.now) from to) }
     ensures stands { IfOk result (λ next. spec.StandsIn parts.now next) }
+    ensures slices { (texts : Parts) → AreSlices texts parts.now → AreSlices texts out.old.items → OnOk result (AreSlices texts out.new.items) }
 {
     let mut next = not_behind(parts, cursor, from);
     while next.index < parts.len() {
@@ -168,8 +174,9 @@ pub(crate) fn push_cut<'a>(
 
 /// Adds all parts of a list.
 pub(crate) fn push_all<'a>(out: &mut Vec<Part<'a>>, parts: &[Part<'a>]) -> Result<(), AllocError>
-    ensures { OnOk result (spec.spelled out.new.items ≡ spec.spelled out.old.items ++
+    ensures text { OnOk result (spec.spelled out.new.items ≡ spec.spelled out.old.items ++
         spec.spelled parts.now) }
+    ensures slices { (texts : Parts) → AreSlices texts parts.now → AreSlices texts out.old.items → OnOk result (AreSlices texts out.new.items) }
 {
     out.extend_from_slice(parts)?;
     Ok(())

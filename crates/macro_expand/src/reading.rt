@@ -1,11 +1,13 @@
 //! The expansion of a region: its statements once macros and aliases are gone.
-ghost use Rattle.std.specs.Prelude.{◌≡◌, ◌<◌, ◌^◌, length, map, Some, OnOk};
+ghost use Rattle.std.specs.Prelude.{◌≡◌, ◌<◌, ◌^◌, length, map, Some, IfOk, OnOk};
 ghost use Rattle.sl_model.specs.Answers.{Gives};
 ghost use Rattle.sl_text.specs.Cut.{parts_of};
 ghost use Rattle.macro_expand.specs.Words.{words as all_words};
 ghost use Rattle.macro_expand.specs.Spelled.{lexemes, spelled};
 ghost use Rattle.macro_expand.specs.Views.{known_of, macro_names, macro_of, open_of, piece_of, reading_of, refusal_of, what_of};
 ghost use Rattle.macro_expand.specs.Region as spec;
+ghost use Rattle.sl_model.specs.Text.{Parts};
+ghost use Rattle.macro_expand.specs.Slices.{AreBody, AreMacros, AreSlices, HasSlices, HaveSlices, IsOpen, KnowsSlices, ReadsSlices};
 
 use crate::expansion::{
     Known, Macro, Macros, Piece, Place, What, count_if, give, invoked, refused, statement,
@@ -49,8 +51,9 @@ fn add_macro<'a>(
     name: &str,
     found: Macro<'a>,
 ) -> Result<(), ExpandErr>
-    ensures { Gives refusal_of (λ _. macro_names macros.new) result
+    ensures macros { Gives refusal_of (λ _. macro_names macros.new) result
         (spec.named line name.now (macro_of found.entry) (macro_names macros.old)) }
+    ensures slices { (texts : Parts) → AreBody texts found.entry.body.items → AreMacros texts macros.old → OnOk result (AreMacros texts macros.new) }
 {
     if macros.contains_key(name) {
         return Err(refused(line, ExpandReason::MacroTwice));
@@ -68,9 +71,10 @@ fn define<'a>(
     words: &[Token<'_>],
     body: Vec<What<'a>>,
 ) -> Result<(), ExpandErr>
-    ensures { Gives refusal_of (λ _. macro_names macros.new) result
+    ensures macros { Gives refusal_of (λ _. macro_names macros.new) result
         (spec.define line (lexemes words.now) (map what_of body.entry.items) (macro_names
         macros.old)) }
+    ensures slices { (texts : Parts) → AreBody texts body.entry.items → AreMacros texts macros.old → OnOk result (AreMacros texts macros.new) }
 {
     let [_dot, _macro, name, more @ ..] = words else {
         return Ok(());
@@ -84,7 +88,8 @@ fn define<'a>(
 
 // Begins a row where a definition of the region ends, so that no note behind it has an instruction.
 fn give_row(known: &mut Known<'_>, counts: bool, line: u32) -> Result<(), AllocError>
-    ensures { OnOk result (known_of known.new ≡ spec.row_if counts line (known_of known.old)) }
+    ensures known { OnOk result (known_of known.new ≡ spec.row_if counts line (known_of known.old)) }
+    ensures slices { (texts : Parts) → KnowsSlices texts known.old → OnOk result (KnowsSlices texts known.new) }
 {
     if !counts {
         return Ok(());
@@ -101,8 +106,9 @@ fn closing(
     line: u32,
     text: &str,
 ) -> Result<(), ExpandErr>
-    ensures { Gives refusal_of (λ _. known_of known.new) result
+    ensures known { Gives refusal_of (λ _. known_of known.new) result
         (spec.closing counts first head.now line text.now (known_of known.old)) }
+    ensures slices { (texts : Parts) → KnowsSlices texts known.old → OnOk result (KnowsSlices texts known.new) }
 {
     count_if(known, counts, first, head)?;
     count_if(known, counts, line, text)?;
@@ -118,8 +124,9 @@ fn close<'a>(
     line: u32,
     text: &str,
 ) -> Result<(), ExpandErr>
-    ensures { Gives refusal_of (λ _. reading_of reading.new) result
+    ensures reading { Gives refusal_of (λ _. reading_of reading.new) result
         (spec.close (open_of opened.entry) line text.now (reading_of reading.old)) }
+    ensures slices { (texts : Parts) → IsOpen texts opened.entry → ReadsSlices texts reading.old → OnOk result (ReadsSlices texts reading.new) }
 {
     let first = opened.line;
     let counts = opened.counts;
@@ -133,8 +140,9 @@ fn close<'a>(
 
 // Leaves a definition open.
 fn reopen<'a>(reading: &mut Reading<'a>, opened: Open<'a>)
-    ensures { reading_of reading.new ≡ spec.with_open (open_of opened.entry) (reading_of
+    ensures reading { reading_of reading.new ≡ spec.with_open (open_of opened.entry) (reading_of
         reading.old) }
+    ensures slices { (texts : Parts) → IsOpen texts opened.entry → ReadsSlices texts reading.old → ReadsSlices texts reading.new }
 {
     reading.opened = Some(opened);
 }
@@ -146,9 +154,10 @@ fn keep<'a>(
     quiet: bool,
     what: What<'a>,
 ) -> Result<(), AllocError>
-    ensures { OnOk result (reading_of reading.new
+    ensures reading { OnOk result (reading_of reading.new
         ≡ spec.with_open (spec.with_more quiet (what_of what.entry) (open_of opened.entry))
         (reading_of reading.old)) }
+    ensures slices { (texts : Parts) → IsOpen texts opened.entry → HasSlices texts what.entry → ReadsSlices texts reading.old → OnOk result (ReadsSlices texts reading.new) }
 {
     let mut opened = opened;
     opened.bare = opened.bare && quiet;
@@ -165,9 +174,10 @@ fn statement_in_open<'a>(
     line: u32,
     parts: &[Part<'a>],
 ) -> Result<(), ExpandErr>
-    ensures { Gives refusal_of (λ _. reading_of reading.new) result
+    ensures reading { Gives refusal_of (λ _. reading_of reading.new) result
         (spec.statement_in_open (open_of opened.entry) line (spelled parts.now) (reading_of
         reading.old)) }
+    ensures slices { (texts : Parts) → IsOpen texts opened.entry → AreSlices texts parts.now → ReadsSlices texts reading.old → OnOk result (ReadsSlices texts reading.new) }
 {
     let text = joined(alloc, parts)?;
     let words = words_of(alloc, &text)?;
@@ -192,8 +202,9 @@ fn give_note<'a>(
     line: u32,
     note: &'a str,
 ) -> Result<(), AllocError>
-    ensures { OnOk result (known_of known.new ≡ spec.note_if counts line note.now (known_of
+    ensures known { OnOk result (known_of known.new ≡ spec.note_if counts line note.now (known_of
         known.old)) }
+    ensures slices { (texts : Parts) → KnowsSlices texts known.old → OnOk result (KnowsSlices texts known.new) }
 {
     if !counts {
         return Ok(());
@@ -208,8 +219,9 @@ fn note_in_open<'a>(
     line: u32,
     note: &'a str,
 ) -> Result<(), AllocError>
-    ensures { OnOk result (reading_of reading.new
+    ensures reading { OnOk result (reading_of reading.new
         ≡ spec.note_in_open (open_of opened.entry) line note.now (reading_of reading.old)) }
+    ensures slices { (texts : Parts) → IsOpen texts opened.entry → ReadsSlices texts reading.old → OnOk result (ReadsSlices texts reading.new) }
 {
     let bare = opened.bare;
     let counts = opened.counts;
@@ -229,8 +241,9 @@ fn in_open<'a>(
     line: u32,
     what: What<'a>,
 ) -> Result<(), ExpandErr>
-    ensures { Gives refusal_of (λ _. reading_of reading.new) result
+    ensures reading { Gives refusal_of (λ _. reading_of reading.new) result
         (spec.in_open (open_of opened.entry) line (what_of what.entry) (reading_of reading.old)) }
+    ensures slices { (texts : Parts) → IsOpen texts opened.entry → HasSlices texts what.entry → ReadsSlices texts reading.old → OnOk result (ReadsSlices texts reading.new) }
 {
     match what {
         What::Statement(parts) => {
@@ -245,7 +258,8 @@ fn in_open<'a>(
 
 // A definition that begins.
 fn opening<'a>(alloc: Global, counts: bool, line: u32, head: Vec<Part<'a>>) -> Open<'a>
-    ensures { open_of result ≡ spec.opening counts line (spelled head.entry.items) }
+    ensures opened { open_of result ≡ spec.opening counts line (spelled head.entry.items) }
+    ensures slices { (texts : Parts) → AreSlices texts head.entry.items → IsOpen texts result }
 {
     Open {
         line,
@@ -263,10 +277,11 @@ fn before_statement<'a>(
     line: u32,
     parts: Vec<Part<'a>>,
 ) -> Result<(), ExpandErr>
-    ensures { Gives refusal_of (λ _. reading_of reading.new) result
+    ensures reading { Gives refusal_of (λ _. reading_of reading.new) result
         (spec.before_statement line (spelled parts.entry.items) (all_words (spelled
         parts.entry.items))
         (reading_of reading.old)) }
+    ensures slices { (texts : Parts) → AreSlices texts parts.entry.items → ReadsSlices texts reading.old → OnOk result (ReadsSlices texts reading.new) }
 {
     let text = joined(alloc, &parts)?;
     let words = words_of(alloc, &text)?;
@@ -293,10 +308,11 @@ fn region_statement<'a>(
     line: u32,
     parts: Vec<Part<'a>>,
 ) -> Result<(), ExpandErr>
-    ensures { Gives refusal_of (λ _. reading_of reading.new) result
+    ensures reading { Gives refusal_of (λ _. reading_of reading.new) result
         (spec.region_statement line (spelled parts.entry.items) (all_words (spelled
         parts.entry.items))
         (reading_of reading.old)) }
+    ensures slices { (texts : Parts) → AreSlices texts parts.entry.items → ReadsSlices texts reading.old → OnOk result (ReadsSlices texts reading.new) }
 {
     let text = joined(alloc, &parts)?;
     let words = words_of(alloc, &text)?;
@@ -321,8 +337,9 @@ fn before_one<'a>(
     line: u32,
     what: What<'a>,
 ) -> Result<(), ExpandErr>
-    ensures { Gives refusal_of (λ _. reading_of reading.new) result
+    ensures reading { Gives refusal_of (λ _. reading_of reading.new) result
         (spec.before_one line (what_of what.entry) (reading_of reading.old)) }
+    ensures slices { (texts : Parts) → HasSlices texts what.entry → ReadsSlices texts reading.old → OnOk result (ReadsSlices texts reading.new) }
 {
     match what {
         What::Statement(parts) => before_statement(alloc, reading, line, parts),
@@ -339,8 +356,9 @@ fn region_one<'a>(
     line: u32,
     what: What<'a>,
 ) -> Result<(), ExpandErr>
-    ensures { Gives refusal_of (λ _. reading_of reading.new) result
+    ensures reading { Gives refusal_of (λ _. reading_of reading.new) result
         (spec.region_one line (what_of what.entry) (reading_of reading.old)) }
+    ensures slices { (texts : Parts) → HasSlices texts what.entry → ReadsSlices texts reading.old → OnOk result (ReadsSlices texts reading.new) }
 {
     match what {
         What::Statement(parts) => return region_statement(alloc, reading, line, parts),
@@ -358,9 +376,10 @@ fn read_piece<'a>(
     region: bool,
     piece: Piece<'a>,
 ) -> Result<(), ExpandErr>
-    ensures { Gives refusal_of (λ _. reading_of reading.new) result
+    ensures reading { Gives refusal_of (λ _. reading_of reading.new) result
         (spec.or_in_open region (reading_of reading.old).opened (piece_of piece.entry) (reading_of
         reading.old)) }
+    ensures slices { (texts : Parts) → HasSlices texts piece.entry.what → ReadsSlices texts reading.old → OnOk result (ReadsSlices texts reading.new) }
 {
     let Piece { line, what } = piece;
     if let Some(opened) = reading.opened.take() {
@@ -379,8 +398,9 @@ fn read_all<'a>(
     region: bool,
     pieces: Vec<Piece<'a>>,
 ) -> Result<(), ExpandErr>
-    ensures { Gives refusal_of (λ _. reading_of reading.new) result
+    ensures reading { Gives refusal_of (λ _. reading_of reading.new) result
         (spec.read_all region (map piece_of pieces.entry.items) (reading_of reading.old)) }
+    ensures slices { (texts : Parts) → HaveSlices texts pieces.entry.items → ReadsSlices texts reading.old → OnOk result (ReadsSlices texts reading.new) }
 {
     for piece in pieces {
         read_piece(alloc, reading, region, piece)?;
@@ -390,7 +410,8 @@ fn read_all<'a>(
 
 // Nothing yet.
 fn nothing_known<'a>(alloc: Global) -> Reading<'a>
-    ensures { reading_of result ≡ spec.nothing_known }
+    ensures reading { reading_of result ≡ spec.nothing_known }
+    ensures slices { (texts : Parts) → ReadsSlices texts result }
 {
     Reading {
         macros: IndexMap::new(alloc),
@@ -405,7 +426,8 @@ fn nothing_known<'a>(alloc: Global) -> Reading<'a>
 
 // The pieces given.
 fn given_of<'a>(known: Known<'a>) -> Vec<Piece<'a>>
-    ensures { map piece_of result.items ≡ (known_of known.entry).given }
+    ensures pieces { map piece_of result.items ≡ (known_of known.entry).given }
+    ensures slices { (texts : Parts) → KnowsSlices texts known.entry → HaveSlices texts result.items }
 {
     let Known { given, .. } = known;
     given
@@ -413,8 +435,9 @@ fn given_of<'a>(known: Known<'a>) -> Vec<Piece<'a>>
 
 // The pieces given, if each definition has an end.
 fn all_closed<'a>(reading: Reading<'a>) -> Result<Vec<Piece<'a>>, ExpandErr>
-    ensures { Gives refusal_of (λ pieces. map piece_of pieces.items) result
+    ensures pieces { Gives refusal_of (λ pieces. map piece_of pieces.items) result
         (spec.all_closed (reading_of reading.entry).opened (known_of reading.entry.known)) }
+    ensures slices { (texts : Parts) → ReadsSlices texts reading.entry → IfOk result (λ pieces. HaveSlices texts pieces.items) }
 {
     if let Some(opened) = &reading.opened {
         return Err(refused(opened.line, ExpandReason::NoEndm));
@@ -437,8 +460,9 @@ pub fn expand<'a>(
     requires before { length cut.now.before.now < 2 ^ 31 }
     requires body { length cut.now.body.now < 2 ^ 31 }
     requires first { cut.now.first < 2 ^ 31 }
-    ensures { Gives refusal_of (λ pieces. map piece_of pieces.items) result
+    ensures pieces { Gives refusal_of (λ pieces. map piece_of pieces.items) result
         (spec.expansion comments (parts_of cut.now)) }
+    ensures slices { IfOk result (λ pieces. HaveSlices (parts_of cut.now) pieces.items) }
 {
     let mut before = Vec::new(alloc);
     let inside = push_rows(alloc, &mut before, cut.before, 1, comments, false)?;

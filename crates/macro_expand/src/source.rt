@@ -1,12 +1,13 @@
 //! A text as rows: where a line begins, its statements without their comments, and its note.
 ghost use Rattle.std.specs.Prelude.{◌≡◌, ◌==◌, ◌&&◌, ◌++◌, ◌<◌, ◌^◌, length, map, slice_range, IfOk, OnOk, false};
-ghost use Rattle.sl_model.specs.Text.{numbered_lines};
+ghost use Rattle.sl_model.specs.Text.{Parts, numbered_lines};
 ghost use Rattle.sl_model.specs.Token.{tokens as line_tokens, open_behind};
 ghost use Rattle.sl_text.specs.Tokens.{token_value};
 ghost use Rattle.macro_expand.specs.Spelled.{lexemes, spelled, spelled_lists};
 ghost use Rattle.macro_expand.specs.Views.{piece_of};
 ghost use Rattle.macro_expand.specs.Region.{open_after};
 ghost use Rattle.macro_expand.specs.Source as spec;
+ghost use Rattle.macro_expand.specs.Slices.{AreSlices, AreLists, AreCutOf, HaveSlices, IsSliceIn};
 
 use crate::expansion::{Piece, What, parted};
 use crate::parts::{Part, push_slice};
@@ -24,8 +25,9 @@ fn push_left<'a>(
     touches: bool,
     token: &Token<'a>,
 ) -> Result<(), AllocError>
-    ensures { OnOk result (spelled out.new.items
+    ensures text { OnOk result (spelled out.new.items
         ≡ spelled out.old.items ++ spec.left_of touches (token_value token.now)) }
+    ensures slices { (texts : Parts) → IsSliceIn texts token.now.text.now → AreSlices texts out.old.items → OnOk result (AreSlices texts out.new.items) }
 {
     if !token.is_comment() {
         out.push(Part::Text(token.text))?;
@@ -52,8 +54,9 @@ fn push_bared<'a>(
     place: usize,
     tokens: &[Token<'a>],
 ) -> Result<(), AllocError>
-    ensures { OnOk result (spelled out.new.items
+    ensures text { OnOk result (spelled out.new.items
         ≡ spelled out.old.items ++ spec.bared line.now false place (lexemes tokens.now)) }
+    ensures slices { (texts : Parts) → IsSliceIn texts line.now → AreCutOf line.now (lexemes tokens.now) → AreSlices texts out.old.items → OnOk result (AreSlices texts out.new.items) }
 {
     let mut place = place;
     let mut commented = false;
@@ -72,8 +75,9 @@ fn bare<'a>(
     line: &'a str,
     statement: &[Token<'a>],
 ) -> Result<Vec<Part<'a>>, AllocError>
-    ensures { IfOk result (λ parts. spelled parts.items
+    ensures text { IfOk result (λ parts. spelled parts.items
         ≡ spec.bare line.now (lexemes statement.now)) }
+    ensures slices { (texts : Parts) → IsSliceIn texts line.now → AreCutOf line.now (lexemes statement.now) → IfOk result (λ parts. AreSlices texts parts.items) }
 {
     let mut out = Vec::new(alloc);
     let [first, ..] = statement else {
@@ -89,8 +93,9 @@ fn push_lists<'a>(
     line: u32,
     lists: Vec<Vec<Part<'a>>>,
 ) -> Result<(), AllocError>
-    ensures { OnOk result (map piece_of out.new.items ≡ map piece_of out.old.items
+    ensures pieces { OnOk result (map piece_of out.new.items ≡ map piece_of out.old.items
         ++ map (spec.on_line line) (map spec.Statement (spelled_lists lists.entry.items))) }
+    ensures slices { (texts : Parts) → AreLists texts lists.entry.items → HaveSlices texts out.old.items → OnOk result (HaveSlices texts out.new.items) }
 {
     for list in lists {
         let what = What::Statement(list);
@@ -107,9 +112,10 @@ fn push_statements<'a>(
     line: &'a str,
     tokens: &[Token<'a>],
 ) -> Result<(), AllocError>
-    ensures { OnOk result (map piece_of out.new.items ≡ map piece_of out.old.items
+    ensures pieces { OnOk result (map piece_of out.new.items ≡ map piece_of out.old.items
         ++ map (spec.on_line number)
         (spec.each_parted line.now (spec.statements (lexemes tokens.now)))) }
+    ensures slices { (texts : Parts) → IsSliceIn texts line.now → AreCutOf line.now (lexemes tokens.now) → HaveSlices texts out.old.items → OnOk result (HaveSlices texts out.new.items) }
 {
     let mut rest = Some(tokens);
     while let Some(left) = rest {
@@ -150,8 +156,9 @@ fn push_notes<'a>(
     line: u32,
     tokens: &[Token<'a>],
 ) -> Result<(), AllocError>
-    ensures { OnOk result (map piece_of out.new.items ≡ map piece_of out.old.items
+    ensures pieces { OnOk result (map piece_of out.new.items ≡ map piece_of out.old.items
         ++ map (spec.on_line line) (map spec.Note (spec.notes_in (lexemes tokens.now)))) }
+    ensures slices { (texts : Parts) → HaveSlices texts out.old.items → OnOk result (HaveSlices texts out.new.items) }
 {
     for token in tokens {
         if !is_note(token) {
@@ -206,9 +213,10 @@ fn push_row<'a>(
     inside: bool,
     tokens: &[Token<'a>],
 ) -> Result<(), AllocError>
-    ensures { OnOk result (map piece_of out.new.items ≡ map piece_of out.old.items
+    ensures pieces { OnOk result (map piece_of out.new.items ≡ map piece_of out.old.items
         ++ map (spec.on_line line.entry.number)
         (spec.row inside line.entry.text.now (lexemes tokens.now))) }
+    ensures slices { (texts : Parts) → IsSliceIn texts line.entry.text.now → AreCutOf line.entry.text.now (lexemes tokens.now) → HaveSlices texts out.old.items → OnOk result (HaveSlices texts out.new.items) }
 {
     let number = line.number;
     out.push(Piece {
@@ -235,6 +243,7 @@ pub(crate) fn push_rows<'a>(
         ++ spec.rows comments inside (numbered_lines first text.now)) }
     ensures unclosed { IfOk result (λ unclosed. unclosed
         ≡ open_after comments inside (numbered_lines first text.now)) }
+    ensures slices { (texts : Parts) → IsSliceIn texts text.now → HaveSlices texts out.old.items → OnOk result (HaveSlices texts out.new.items) }
 {
     let mut unclosed = inside;
     for line in lines(text, first) {

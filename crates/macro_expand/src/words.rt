@@ -8,6 +8,8 @@ ghost use Rattle.std.specs.Str.{str_eq_ignore_ascii_case};
 ghost use Rattle.sl_text.specs.Tokens.{token_value};
 ghost use Rattle.macro_expand.specs.Spelled.{lexemes, spelled, spelled_lists, names_in, StandsIn};
 ghost use Rattle.macro_expand.specs.Words as spec;
+ghost use Rattle.sl_model.specs.Text.{Parts};
+ghost use Rattle.macro_expand.specs.Slices.{AreLists, AreSlices};
 
 use crate::parts::{Cursor, Part, beginning, push_cut};
 use indexmap::IndexSet;
@@ -95,6 +97,7 @@ fn push_between<'a>(
     ensures span { OnOk result (spelled out.new.items
         ≡ spelled out.old.items ++ spec.span (spelled parts.now) (lexemes words.now)) }
     ensures stands { IfOk result (λ next. StandsIn parts.now next) }
+    ensures slices { (texts : Parts) → AreSlices texts parts.now → AreSlices texts out.old.items → OnOk result (AreSlices texts out.new.items) }
 {
     let [first, more @ ..] = words else {
         return Ok(cursor);
@@ -133,6 +136,7 @@ fn push_span<'a>(
     ensures span { OnOk result (spelled_lists out.new.items ≡ spelled_lists out.old.items
         ++ spec.span (spelled parts.now) (lexemes words.now) ∷ []) }
     ensures stands { IfOk result (λ next. StandsIn parts.now next) }
+    ensures slices { (texts : Parts) → AreSlices texts parts.now → AreLists texts out.old.items → OnOk result (AreLists texts out.new.items) }
 {
     let mut span = Vec::new(alloc);
     let next = push_between(&mut span, parts, cursor, words)?;
@@ -157,8 +161,9 @@ pub(crate) fn push_divided<'a>(
     parts: &[Part<'a>],
     words: &[Token<'_>],
 ) -> Result<(), AllocError>
-    ensures { OnOk result (spelled_lists out.new.items ≡ spelled_lists out.old.items ++
+    ensures text { OnOk result (spelled_lists out.new.items ≡ spelled_lists out.old.items ++
         spec.divided false (spelled parts.now) (lexemes words.now)) }
+    ensures slices { (texts : Parts) → AreSlices texts parts.now → AreLists texts out.old.items → OnOk result (AreLists texts out.new.items) }
 {
     let mut cursor = beginning(parts);
     let mut rest = words;
@@ -288,8 +293,9 @@ pub(crate) fn arguments<'a>(
     parts: &[Part<'a>],
     words: &[Token<'_>],
 ) -> Result<Vec<Vec<Part<'a>>>, AllocError>
-    ensures { IfOk result (λ values. spelled_lists values.items ≡ spec.arguments (spelled
+    ensures text { IfOk result (λ values. spelled_lists values.items ≡ spec.arguments (spelled
         parts.now) (lexemes words.now)) }
+    ensures slices { (texts : Parts) → AreSlices texts parts.now → IfOk result (λ values. AreLists texts values.items) }
 {
     let mut values = Vec::new(alloc);
     if words.is_empty() {

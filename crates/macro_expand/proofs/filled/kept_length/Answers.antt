@@ -1,4 +1,4 @@
-use Rattle.std.proofs.Common.{◌≡◌, ap, sym, ◌∙◌}
+use Rattle.std.proofs.Common.{ap, sym, ◌∙◌}
 use Rattle.std.proofs.lemmas.List.{take_rest}
 use Rattle.macro_expand.specs.Filled.{begins_twice}
 use Rattle.macro_expand.proofs.KeptLemmas.{kept-more}

@@ -1,4 +1,4 @@
-use Rattle.std.proofs.Common.{◌≡◌, ◌++◌, ap, sym, ◌∙◌, append-nil, refl}
+use Rattle.std.proofs.Common.{◌++◌, ap, sym, ◌∙◌, append-nil, refl}
 use Rattle.macro_expand.specs.Spelled.{spelled}
 use Rattle.macro_expand.proofs.WordLemmas.{span-none, span-from, on-ok}
 use Rattle.macro_expand.proofs.words.push_between.Goals as goal
