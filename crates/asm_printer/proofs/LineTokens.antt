@@ -83,7 +83,7 @@ closed_from comments place zero (c ∷ text) =
 
 -- ---- the words of an instruction, and a comment behind them
 
-word_kind : (kind : TokenKind) (text : List ℕ) → is_of_instruction kind text ≡ true → is_comment kind ≡ false
+pub word_kind : (kind : TokenKind) (text : List ℕ) → is_of_instruction kind text ≡ true → is_comment kind ≡ false
 word_kind Word text e = refl
 word_kind Number text e = refl
 word_kind Mark text e = refl
@@ -150,7 +150,7 @@ line_closed comments line words note is =
     ∙ words_closed words (line_comment is.place (codes " @slothy:" ++ note) ∷ []) is.plain (subst (AllByRecursion IsClosed) is.tokens_are (closed_from comments 0 0 line))
 
 -- the line of an instruction
-pub item_tokens : (language : Language) (name : ArchName) (text note : List ℕ) (i : Instr) (spelled : IsSpelledAt language [] (comments_of name) text 8 (codes " // @slothy:" ++ note) i)
+unfoldable pub item_tokens : (language : Language) (name : ArchName) (text note : List ℕ) (i : Instr) (spelled : IsSpelledAt language [] (comments_of name) text 8 (codes " // @slothy:" ++ note) i)
     → IsLine (comments_of name) (codes "        " ++ (text ++ (codes " // @slothy:" ++ note))) spelled.words note
 unfolding tokens_at tokens_from
 item_tokens language name text note i spelled = record {
@@ -160,7 +160,7 @@ item_tokens language name text note i spelled = record {
 }
 
 -- the first line of a region
-pub head_tokens : (name : ArchName) (note : List ℕ) → IsLine (comments_of name) (codes "        // @slothy:region" ++ note) [] (codes "region" ++ note)
+unfoldable pub head_tokens : (name : ArchName) (note : List ℕ) → IsLine (comments_of name) (codes "        // @slothy:region" ++ note) [] (codes "region" ++ note)
 unfolding tokens_at tokens_from
 head_tokens name note = record {
   place = 8;

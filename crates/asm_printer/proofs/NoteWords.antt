@@ -218,6 +218,7 @@ pub record IsSaid (accesses : Bool) (note : List ℕ) : Type 0 where
   pub remark : ℕ → Remark
   pub said : (line : ℕ) → note_said line note ≡ Some (of_item (remark line))
   pub allowed : (line : ℕ) → may_say accesses (Some (of_item (remark line))) ≡ true
+  pub same : (line n : ℕ) → remark (line + n) ≡ record (remark line) { told = record (remark line).told { line = (remark line).told.line + n } }
 
 tag_allowed : (accesses : Bool) (number : ℕ) (item unit cycle line : List ℕ) (tag : Option (List ℕ)) (early late : Bool) → (is_some tag ≡ true → accesses ≡ true)
     → may_say accesses (Some (of_item (remark_of number (all_words item unit cycle line tag early late)))) ≡ true
@@ -252,6 +253,7 @@ note-said accesses (Some item) (Some unit) (Some cycle) line tag early late hi s
           (decimal_plain line hl) (tag_plain tag ht) e)
           ∙ words_say number (decimal item) unit (decimal cycle) (decimal line) tag early late (number_text item small_item) hu (number_text cycle small_cycle) (number_text line hl) ht e;
       allowed = λ number. tag_allowed accesses number (decimal item) unit (decimal cycle) (decimal line) tag early late may;
+      same = λ number n. refl;
     }
 
 -- ---- the note of the region
@@ -294,7 +296,7 @@ region_say number n cycles stalls hn hc hs =
     ∙ ap (λ b. b && true) hs)
 
 -- The first line says something of the region.
-pub head-said : (head : Head) → is_whole_head head ≡ true → (mask : ℕ) × (note_said 1 (codes "region" ++ head_note head) ≡ Some (of_region mask))
+pub head-said : (head : Head) → is_whole_head head ≡ true → (mask : ℕ) × ((number : ℕ) → note_said number (codes "region" ++ head_note head) ≡ Some (of_region mask))
 unfolding note_said
 head-said head h =
     let first = and_parts (nat_lt head.items (2 ^ 64)) (nat_lt head.cycles (2 ^ 64) && nat_lt head.stalls (2 ^ 64)) h in
@@ -303,6 +305,6 @@ head-said head h =
     let cycles : head.cycles < 2 ^ 64 = lt_from head.cycles (2 ^ 64) second.0 in
     let stalls : head.stalls < 2 ^ 64 = lt_from head.stalls (2 ^ 64) second.1 in (
       mask_in (region_words (decimal head.items) (decimal head.cycles) (decimal head.stalls)),
-      ap (words_said 1) (head_words (decimal head.items) (decimal head.cycles) (decimal head.stalls) (decimal_plain head.items n) (decimal_plain head.cycles cycles) (decimal_plain head.stalls stalls))
-          ∙ region_say 1 (decimal head.items) (decimal head.cycles) (decimal head.stalls) (number_text head.items n) (number_text head.cycles cycles) (number_text head.stalls stalls),
+      λ number. ap (words_said number) (head_words (decimal head.items) (decimal head.cycles) (decimal head.stalls) (decimal_plain head.items n) (decimal_plain head.cycles cycles) (decimal_plain head.stalls stalls))
+          ∙ region_say number (decimal head.items) (decimal head.cycles) (decimal head.stalls) (number_text head.items n) (number_text head.cycles cycles) (number_text head.stalls stalls),
     )

@@ -115,10 +115,10 @@ head_of note = codes "        // @slothy:region" ++ note
 abbrev pub body_of : Printed → List ℕ
 body_of printed = codes "        " ++ (printed.text ++ (codes " // @slothy:" ++ printed.note))
 
-head_whole : (note end : List ℕ) → list_all is_inside_line note ≡ true → IsLineEnd end → IsWhole (head_of note) end
+pub head_whole : (note end : List ℕ) → list_all is_inside_line note ≡ true → IsLineEnd end → IsWhole (head_of note) end
 head_whole note end inside ends = whole_line [] (head_of note) end refl (omega arith) inside ends
 
-body_whole : (language : Language) (comments : Comments) (printed : Printed) (end : List ℕ) → IsPrinted language comments printed → IsLineEnd end → IsWhole (body_of printed) end
+pub body_whole : (language : Language) (comments : Comments) (printed : Printed) (end : List ℕ) → IsPrinted language comments printed → IsLineEnd end → IsWhole (body_of printed) end
 body_whole language comments printed end is ends = whole_line (codes "        " ++ printed.text) (codes " // @slothy:" ++ printed.note) end is.text (omega arith) is.note ends
 
 -- ---- the note of a line
@@ -156,12 +156,55 @@ pub record ReadsAs (read : Result Progress Refusal) (items : List Instr) : Type 
   pub plain : new.pairs ≡ []
 
 -- a draft without symbolic registers
-abbrev plain_read : Draft → Progress
+abbrev pub plain_read : Draft → Progress
 plain_read draft = record { draft = draft; pairs = [] }
 
 -- the note of a line that says something of its instruction
 abbrev pub IsNoted : Isa → Printed → Type 0
 IsNoted isa printed = IsSaid (has_access (isa.info printed.item.form)) printed.note
+
+-- The draft behind the lines of instructions, of which the first has a number.
+unfoldable pub drafted : (isa : Isa) → ℕ → Draft → (printed : List Printed) → AllByRecursion (IsNoted isa) printed → Draft
+drafted isa number draft [] noted = draft
+drafted isa number draft (first ∷ more) noted = drafted isa (number + 1) (with_remark (longer (has_access (isa.info first.item.form)) number draft first.item) (noted.0.remark number)) more noted.1
+
+-- the draft behind the first line of a region, with its mask
+abbrev pub headed : ℕ → Draft
+headed mask = with_said no_draft (Some (of_region mask))
+
+-- a line adds its instruction
+item_same : (isa : Isa) (number : ℕ) (draft : Draft) (first : Printed) (noted : IsNoted isa first)
+    → map unmarked (with_remark (longer (has_access (isa.info first.item.form)) number draft first.item) (noted.remark number)).items ≡ map unmarked draft.items ++ unmarked first.item ∷ []
+item_same isa number draft first noted = marked-last (marked draft.tags (noted.remark number)) draft.items (record first.item { line = number }) refl
+
+pub item_counted : (isa : Isa) (number : ℕ) (draft : Draft) (first : Printed) (noted : IsNoted isa first)
+    → length (with_remark (longer (has_access (isa.info first.item.form)) number draft first.item) (noted.remark number)).items ≡ length draft.items + 1
+item_counted isa number draft first noted =
+    let next : Draft = with_remark (longer (has_access (isa.info first.item.form)) number draft first.item) (noted.remark number) in
+    sym (length-map next.items unmarked) ∙ ap length (item_same isa number draft first noted)
+    ∙ length-append (map unmarked draft.items) (unmarked first.item ∷ []) ∙ ap (λ n. n + 1) (length-map draft.items unmarked)
+
+-- so that it has their instructions
+pub drafted-same : (isa : Isa) (number : ℕ) (draft : Draft) (printed : List Printed) (noted : AllByRecursion (IsNoted isa) printed)
+    → map unmarked (drafted isa number draft printed noted).items ≡ map unmarked draft.items ++ map unmarked (printed_items printed)
+unfolding drafted
+drafted-same isa number draft [] noted = sym (append-nil (map unmarked draft.items))
+drafted-same isa number draft (first ∷ more) noted =
+    let next : Draft = with_remark (longer (has_access (isa.info first.item.form)) number draft first.item) (noted.0.remark number) in
+    drafted-same isa (number + 1) next more noted.1
+    ∙ ap (λ l. l ++ map unmarked (printed_items more)) (item_same isa number draft first noted.0)
+    ∙ append_assoc (map unmarked draft.items) (unmarked first.item ∷ []) (map unmarked (printed_items more))
+
+-- which read no symbolic register
+pub drafted-set : (isa : Isa) (number mask : ℕ) (printed : List Printed) (noted : AllByRecursion (IsNoted isa) printed)
+    → list_all reads_concrete (map unmarked (printed_items printed)) ≡ true → first_unset [] (drafted isa number (headed mask) printed noted).items ≡ None
+drafted-set isa number mask printed noted concrete =
+    let items : List Instr = (drafted isa number (headed mask) printed noted).items in
+    none-unset [] items (sym (read-unmarked items) ∙ ap (list_all reads_concrete) (drafted-same isa number (headed mask) printed noted) ∙ concrete)
+
+-- the text of a line with its end
+pub line_text : (printed : Printed) (end : List ℕ) → item_line end printed ≡ body_of printed ++ end
+line_text printed end = ap (λ v. codes "        " ++ v) (sym (append_assoc printed.text (codes " // @slothy:" ++ printed.note) end))
 
 module _ (language : Language) (wants : Wants) (some : (i : Instr) → language.reads [] [] ≡ Ok i → ⊥) where
   abbrev pub comments : Comments
@@ -192,27 +235,26 @@ module _ (language : Language) (wants : Wants) (some : (i : Instr) → language.
   no_names (first ∷ words) known = with_pairs-known [] (language.pairs_in (first ∷ words)) known
 
   -- a statement of an instruction, with its note
-  statement_added : (line : ℕ) (draft : Draft) (tokens words : List Lexeme) (i : Instr) (remark : Remark) → words_of tokens ≡ words → knows_words language [] words ≡ true → language.reads [] words ≡ Ok i
-      → said_by line (note_text tokens) ≡ Ok (Some (of_item remark)) → may_say (has_access (language.isa.info i.form)) (Some (of_item remark)) ≡ true
+  pub statement_added : (draft : Draft) (statement : Statement) (i : Instr) (remark : Remark) → knows_words language [] statement.words ≡ true → language.reads [] statement.words ≡ Ok i
+      → said_by statement.line statement.note ≡ Ok (Some (of_item remark)) → may_say (has_access (language.isa.info i.form)) (Some (of_item remark)) ≡ true
       → length draft.items < most_items wants
-      → with_statement language wants (plain_read draft) (statement_at line tokens) ≡ Ok (plain_read (with_remark (longer (has_access (language.isa.info i.form)) line draft i) remark))
-  statement_added line draft tokens words i remark are known read said may room =
+      → with_statement language wants (plain_read draft) statement ≡ Ok (plain_read (with_remark (longer (has_access (language.isa.info i.form)) statement.line draft i) remark))
+  statement_added draft statement i remark known read said may room =
+      let line = statement.line in
       let accesses = has_access (language.isa.info i.form) in
-      let statement : Statement = statement_at line tokens in
       let added : with_noted wants accesses line draft (Some (of_item remark)) i ≡ Ok (with_remark (longer accesses line draft i) remark) =
       ap (λ b. cond b (with_item wants accesses line draft i >>= λ more. Ok (with_said more (Some (of_item remark)))) (refused line reason.TagBad)) may
       ∙ ap (λ r. r >>= λ more. Ok (with_said more (Some (of_item remark)))) (item_added accesses line draft i room) in
-      parts_read language wants (plain_read draft) statement (Some i) (Some (of_item remark)) (ap (instr_of language [] line) are ∙ words_read line words i known read) said
+      parts_read language wants (plain_read draft) statement (Some i) (Some (of_item remark)) (words_read line statement.words i known read) said
       ∙ ap (λ r. r >>= λ more. Ok (named_draft language (plain_read draft) statement more)) added
-      ∙ ap (λ (pairs : List Pair). Ok (record { draft = with_remark (longer accesses line draft i) remark; pairs = pairs })) (ap (pairs_after language []) are ∙ no_names words known)
+      ∙ ap (λ (pairs : List Pair). Ok (record { draft = with_remark (longer accesses line draft i) remark; pairs = pairs })) (no_names statement.words known)
 
   -- and one without words, of which the note is of the region
-  head_added : (line : ℕ) (draft : Draft) (tokens : List Lexeme) (mask : ℕ) → draft.invoked ≡ false → words_of tokens ≡ [] → said_by line (note_text tokens) ≡ Ok (Some (of_region mask))
-      → with_statement language wants (plain_read draft) (statement_at line tokens) ≡ Ok (plain_read (with_said draft (Some (of_region mask))))
-  head_added line draft tokens mask free are said =
-      let statement : Statement = statement_at line tokens in
-      parts_read language wants (plain_read draft) statement None (Some (of_region mask)) (ap (instr_of language [] line) are) said
-      ∙ ap (λ b. cond (not b) (Ok (with_said draft (Some (of_region mask)))) (refused line reason.TagBad) >>= λ more. Ok (named_draft language (plain_read draft) statement more)) free
+  pub head_added : (draft : Draft) (statement : Statement) (mask : ℕ) → draft.invoked ≡ false → statement.words ≡ [] → said_by statement.line statement.note ≡ Ok (Some (of_region mask))
+      → with_statement language wants (plain_read draft) statement ≡ Ok (plain_read (with_said draft (Some (of_region mask))))
+  head_added draft statement mask free are said =
+      parts_read language wants (plain_read draft) statement None (Some (of_region mask)) (ap (instr_of language [] statement.line) are) said
+      ∙ ap (λ b. cond (not b) (Ok (with_said draft (Some (of_region mask)))) (refused statement.line reason.TagBad) >>= λ more. Ok (named_draft language (plain_read draft) statement more)) free
       ∙ ap (λ (pairs : List Pair). Ok (record { draft = with_said draft (Some (of_region mask)); pairs = pairs })) (ap (pairs_after language []) are)
 
   -- a line of words and a comment
@@ -232,68 +274,55 @@ module _ (language : Language) (wants : Wants) (some : (i : Instr) → language.
 
   -- the lines of instructions
   items_added : (end : List ℕ) (number : ℕ) (draft : Draft) (printed : List Printed) → IsLineEnd end → AllByRecursion (IsPrinted language comments) printed
-      → AllByRecursion (IsNoted language.isa) printed → length draft.items + length printed ≤ most_items wants
-      → ReadsAs (with_statements language wants (plain_read draft) (statements_of comments false number (whole_lines (item_lines end printed)))) (map unmarked draft.items ++ map unmarked (printed_items printed))
-  unfolding item_lines whole_lines
-  items_added end number draft [] ends are noted room = record {
-    new = plain_read draft;
-    is = no_lines_read language wants comments false number (plain_read draft);
-    same = sym (append-nil (map unmarked draft.items));
-    plain = refl;
-  }
+      → (noted : AllByRecursion (IsNoted language.isa) printed) → length draft.items + length printed ≤ most_items wants
+      → with_statements language wants (plain_read draft) (statements_of comments false number (whole_lines (item_lines end printed))) ≡ Ok (plain_read (drafted language.isa number draft printed noted))
+  unfolding item_lines whole_lines drafted
+  items_added end number draft [] ends are noted room = no_lines_read language wants comments false number (plain_read draft)
   items_added end number draft (first ∷ more) ends are noted room =
-      let i = record first.item { line = number } in
-      let accesses = has_access (language.isa.info first.item.form) in
       let remark = noted.0.remark number in
-      let next : Draft = with_remark (longer accesses number draft first.item) remark in
+      let next : Draft = with_remark (longer (has_access (language.isa.info first.item.form)) number draft first.item) remark in
       let whole = body_whole language comments first end are.0 ends in
       let spelled = are.0.spelled in
       let lines = whole_lines (item_lines end more) in
       let is = item_tokens language language.isa.name first.text first.note first.item spelled in
-      let all : map unmarked next.items ≡ map unmarked draft.items ++ unmarked first.item ∷ [] = marked-last (marked draft.tags remark) draft.items i refl in
-      let one : length (map unmarked draft.items ++ unmarked first.item ∷ []) ≡ length draft.items + 1 = length-append (map unmarked draft.items) (unmarked first.item ∷ []) ∙ ap (λ n. n + 1) (length-map draft.items unmarked) in
-      let count : length next.items ≡ length draft.items + 1 = sym (length-map next.items unmarked) ∙ ap length all ∙ one in
+      let tokens = spelled.words ++ line_comment is.place (codes " @slothy:" ++ first.note) ∷ [] in
+      let words : words_of tokens ≡ spelled.words = line_words comments (body_of first) spelled.words first.note is in
+      let count = item_counted language.isa number draft first (noted.0) in
       let room_here : length draft.items < most_items wants = omega arith in
       let fit : length next.items + length more ≤ most_items wants = omega (arith, count) in
-      let rest = items_added end (number + 1) next more ends are.1 noted.1 fit in
-      record {
-        new = rest.new;
-        is =
-            ap (λ text. with_statements language wants (plain_read draft) (statements_of comments false number (whole_lines (text ++ item_lines end more)))) (line_text first end)
-            ∙ ap (λ ls. with_statements language wants (plain_read draft) (statements_of comments false number ls)) (whole.first (item_lines end more))
-            ∙ line_added number (plain_read draft) (plain_read next) (body_of first) end lines spelled.words first.note whole is
-            (statement_added number draft (spelled.words ++ line_comment is.place (codes " @slothy:" ++ first.note) ∷ []) spelled.words first.item remark
-            (line_words comments (body_of first) spelled.words first.note is) spelled.known spelled.read
-            (note_behind number spelled.words is.place first.note (of_item remark) (noted.0.said number)) (noted.0.allowed number) room_here)
-            ∙ rest.is;
-        same = rest.same ∙ ap (λ l. l ++ map unmarked (printed_items more)) all ∙ append_assoc (map unmarked draft.items) (unmarked first.item ∷ []) (map unmarked (printed_items more));
-        plain = rest.plain;
-      }
-    where
-      line_text : (printed : Printed) (end : List ℕ) → item_line end printed ≡ body_of printed ++ end
-      line_text printed end = ap (λ v. codes "        " ++ v) (sym (append_assoc printed.text (codes " // @slothy:" ++ printed.note) end))
+      ap (λ text. with_statements language wants (plain_read draft) (statements_of comments false number (whole_lines (text ++ item_lines end more)))) (line_text first end)
+      ∙ ap (λ ls. with_statements language wants (plain_read draft) (statements_of comments false number ls)) (whole.first (item_lines end more))
+      ∙ line_added number (plain_read draft) (plain_read next) (body_of first) end lines spelled.words first.note whole is
+      (statement_added draft (statement_at number tokens) first.item remark
+      (subst (λ ws. knows_words language [] ws ≡ true) (sym words) spelled.known) (ap (language.reads []) words ∙ spelled.read)
+      (note_behind number spelled.words is.place first.note (of_item remark) (noted.0.said number)) (noted.0.allowed number) room_here)
+      ∙ items_added end (number + 1) next more ends are.1 noted.1 fit
 
   -- the whole region
+  pub region_drafted : (note end : List ℕ) (mask : ℕ) (printed : List Printed) → list_all is_inside_line note ≡ true → note_said 1 (codes "region" ++ note) ≡ Some (of_region mask) → IsLineEnd end
+      → AllByRecursion (IsPrinted language comments) printed → (noted : AllByRecursion (IsNoted language.isa) printed)
+      → length printed ≤ most_items wants → list_all reads_concrete (map unmarked (printed_items printed)) ≡ true
+      → region_alone language wants (region_lines note end printed) ≡ Ok (plain_read (drafted language.isa 2 (headed mask) printed noted))
+  unfolding region_alone
+  region_drafted note end mask printed inside says ends are noted room concrete =
+      let whole = head_whole note end inside ends in
+      let is = head_tokens language.isa.name note in
+      let fit : 0 + length printed ≤ most_items wants = omega arith in
+      let draft : Draft = drafted language.isa 2 (headed mask) printed noted in
+      let read : with_statements language wants no_progress (statements_of comments false 1 (whole_lines (region_lines note end printed))) ≡ Ok (plain_read draft) =
+      ap (λ ls. with_statements language wants no_progress (statements_of comments false 1 ls)) (whole.first (item_lines end printed))
+      ∙ line_added 1 no_progress (plain_read (headed mask)) (head_of note) end (whole_lines (item_lines end printed)) [] (codes "region" ++ note) whole is
+      (head_added no_draft (statement_at 1 (line_comment is.place (codes " @slothy:region" ++ note) ∷ [])) mask refl (line_words comments (head_of note) [] (codes "region" ++ note) is)
+      (note_behind 1 [] is.place (codes "region" ++ note) (of_region mask) says))
+      ∙ items_added end 2 (headed mask) printed ends are noted fit in
+      ap (λ r. r >>= set_read) read ∙ ap (λ line. unless_at reason.SymbolUnset line (plain_read draft)) (drafted-set language.isa 2 mask printed noted concrete)
+
   pub region_added : (note end : List ℕ) (mask : ℕ) (printed : List Printed) → list_all is_inside_line note ≡ true → note_said 1 (codes "region" ++ note) ≡ Some (of_region mask) → IsLineEnd end
       → AllByRecursion (IsPrinted language comments) printed → AllByRecursion (IsNoted language.isa) printed
       → length printed ≤ most_items wants → list_all reads_concrete (map unmarked (printed_items printed)) ≡ true → ReadsAs (region_alone language wants (region_lines note end printed)) (map unmarked (printed_items printed))
-  unfolding region_alone
-  region_added note end mask printed inside says ends are noted room concrete =
-      let whole = head_whole note end inside ends in
-      let is = head_tokens language.isa.name note in
-      let headed : Draft = with_said no_draft (Some (of_region mask)) in
-      let fit : 0 + length printed ≤ most_items wants = omega arith in
-      let rest = items_added end 2 headed printed ends are noted fit in
-      let read : with_statements language wants no_progress (statements_of comments false 1 (whole_lines (region_lines note end printed))) ≡ Ok rest.new =
-      ap (λ ls. with_statements language wants no_progress (statements_of comments false 1 ls)) (whole.first (item_lines end printed))
-      ∙ line_added 1 no_progress (plain_read headed) (head_of note) end (whole_lines (item_lines end printed)) [] (codes "region" ++ note) whole is
-      (head_added 1 no_draft (line_comment is.place (codes " @slothy:region" ++ note) ∷ []) mask refl (line_words comments (head_of note) [] (codes "region" ++ note) is)
-      (note_behind 1 [] is.place (codes "region" ++ note) (of_region mask) says))
-      ∙ rest.is in
-      let set : first_unset [] rest.new.draft.items ≡ None = none-unset [] rest.new.draft.items (sym (read-unmarked rest.new.draft.items) ∙ ap (list_all reads_concrete) rest.same ∙ concrete) in
-      record {
-        new = rest.new;
-        is = ap (λ r. r >>= set_read) read ∙ ap (λ line. unless_at reason.SymbolUnset line rest.new) set;
-        same = rest.same;
-        plain = rest.plain;
-      }
+  region_added note end mask printed inside says ends are noted room concrete = record {
+    new = plain_read (drafted language.isa 2 (headed mask) printed noted);
+    is = region_drafted note end mask printed inside says ends are noted room concrete;
+    same = drafted-same language.isa 2 (headed mask) printed noted;
+    plain = refl;
+  }

@@ -75,7 +75,7 @@ tag-accesses accesses tags None h some = cc
 tag-accesses accesses tags (Some k) h some = (and_parts accesses (nat_lt k (length tags)) h).0
 
 -- Each line says something of its instruction.
-all-said : (language : Language) (pairs : List Pair) (tags : List (List ℕ)) (items : List Instr) (notes : List NoteValue) → list_all is_tag tags ≡ true
+pub all-said : (language : Language) (pairs : List Pair) (tags : List (List ℕ)) (items : List Instr) (notes : List NoteValue) → list_all is_tag tags ≡ true
     → list_all (is_marked_right language.isa (length tags)) items ≡ true → list_all (λ (note : NoteValue). is_right_unit note.unit) notes ≡ true → list_all is_whole notes ≡ true
     → AllByRecursion (IsNoted language.isa) (entries (language.printed pairs) tags items notes)
 unfolding entries
@@ -109,7 +109,7 @@ region-reads language wants pairs tags items plan end lawful few spelled names m
     let parts = and_parts (is_whole_head plan.head) (list_all is_whole plan.notes) whole in
     let head = head-said plan.head parts.0 in
     let added =
-    region_added language wants (lawful.nothing []) (head_note plan.head) end head.0 lines (head-inside plan.head) head.1 ends
+    region_added language wants (lawful.nothing []) (head_note plan.head) end head.0 lines (head-inside plan.head) (head.1 1) ends
     (all-printed language (comments_of language.isa.name) pairs tags items plan.notes lawful spelled names units)
     (all-said language pairs tags items plan.notes names marks units parts.1) fit
     (ap (list_all reads_concrete) same ∙ all-read language items lawful spelled) in

@@ -1,8 +1,9 @@
 -- The written file: a region in which other instructions stand.
-use Rattle.std.specs.Prelude.{ℕ, Bool, true, false, ◌==◌, ◌&&◌, ◌^◌, nat_lt, is_some, List, [], ◌∷◌, ◌++◌, reverse, slice_get, codes, Option, None, Some, option_and_then, if◌then◌else◌}
+use Rattle.std.specs.Prelude.{ℕ, ◌≡◌, Bool, true, false, ◌==◌, ◌&&◌, ◌^◌, nat_lt, is_some, List, [], ◌∷◌, ◌++◌, reverse, slice_get, codes, Option, None, Some, option_and_then, if◌then◌else◌}
 use Rattle.std.specs.List.{list_all}
 use Rattle.std.specs.Fmt.{decimal}
 use Rattle.sl_model.specs.declared.instruction.Instr.{Instr}
+use Rattle.sl_model.specs.Text.{Parts}
 use Rattle.sl_isa.specs.Language.{unmarked}
 use Rattle.sl_isa.specs.Symbols.{Pair}
 use Rattle.asm_reader.specs.Notes.{NoteValue}
@@ -112,3 +113,9 @@ written_text printed region items plan =
     region.parts.before
     ++ (region_text (printed region.pairs) region.tags items plan (line_end region.parts.before)
     ++ region.parts.after)
+
+-- A text was added in which what stands before a region comes first and what stands behind it comes
+-- last, byte for byte.
+abbrev pub IsUntouched : Parts → List ℕ → List ℕ → Type 0
+IsUntouched parts old new =
+    (printed : List ℕ) × (new ≡ old ++ (parts.before ++ (printed ++ parts.after)))

@@ -5,5 +5,5 @@ mod note;
 pub mod plan;
 mod print;
 
-pub use plan::{Head, Plan};
-pub use print::written_text;
+pub use plan::{Head, Plan, Program};
+pub use print::print_region;

@@ -1,8 +1,16 @@
 //! What a printed region says of itself.
 
 use asm_reader::Notes;
+use sl_model::instruction::Instr;
 
-/// What the first line of a region says.
+/// A program that is to be printed: a straight list of instructions.
+#[derive(Drop)]
+pub struct Program {
+    /// The instructions.
+    pub items: Vec<Instr>,
+}
+
+/// What the first line of a region says. That of a straight list says nothing of turns.
 #[derive(Clone, Copy, Debug, PartialEq, Eq)]
 pub struct Head {
     /// How many instructions there are.
@@ -11,6 +19,10 @@ pub struct Head {
     pub cycles: u32,
     /// How many stalls are among these.
     pub stalls: u32,
+    /// From how many turns on a loop may run.
+    pub least: u8,
+    /// The set of the instructions that a loop runs one turn early.
+    pub early: u64,
 }
 
 /// What a region says: its first line, and the note of each instruction.

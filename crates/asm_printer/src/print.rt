@@ -1,5 +1,5 @@
 //! The written file: how it is printed.
-ghost use Rattle.std.specs.Prelude.{◌≡◌, ◌++◌, IfOk, OnOk, map};
+ghost use Rattle.std.specs.Prelude.{◌≡◌, ◌++◌, IfOk, OnOk, OnErr, map};
 ghost use Rattle.sl_model.specs.Lawful.{IsValid, AreValid};
 ghost use Rattle.sl_isa.specs.Language.{IsNamed};
 ghost use Rattle.sl_isa.specs.SymbolViews.{pairs};
@@ -12,7 +12,7 @@ ghost use Rattle.asm_printer.specs.Lines.{head_line, item_line, item_lines};
 ghost use Rattle.asm_printer.specs.PlanViews.{plan_value};
 
 use crate::note::{push_head_note, push_note};
-use crate::plan::{Head, Plan};
+use crate::plan::{Head, Plan, Program};
 use asm_reader::{Note, Region, Tags};
 use sl_base::{NoMemory, append};
 use sl_isa::{Arch, Symbols};
@@ -95,21 +95,19 @@ fn push_items<A: Arch>(
     push_items(arch, out, names, items, notes, end)
 }
 
-/// The written file: what stands before a region, other instructions in its place, with what a
-/// plan says of them, and what stands behind it. Their tags and symbolic registers have the names
-/// that they have in the region.
+// The written file as a text of its own.
 #[tactic(auto, unfolding(crate::specs::Printed::region_text))]
-pub fn written_text<A: Arch>(
+fn written_text<A: Arch>(
     arch: &A,
     alloc: Global,
     old: &Region<'_>,
-    items: &[Instr],
+    program: &Program,
     plan: &Plan,
 ) -> Result<Vec<u8>, NoMemory>
-    requires valid { AreValid A.language.isa items.now }
-    requires named { AreNamed (pairs old.now.symbols) items.now }
+    requires valid { AreValid A.language.isa program.now.items.items }
+    requires named { AreNamed (pairs old.now.symbols) program.now.items.items }
     ensures { IfOk result (λ text. text.items
-        ≡ spec.written_text A.language.printed (region_of old.now) items.now
+        ≡ spec.written_text A.language.printed (region_of old.now) program.now.items.items
         (plan_value plan.now)) }
 {
     let end = line_end(old.cut.before);
@@ -120,7 +118,38 @@ pub fn written_text<A: Arch>(
         symbols: &old.symbols,
         tags: &old.tags,
     };
-    push_items(arch, &mut text, names, items, plan.notes.list(), end)?;
+    push_items(
+        arch,
+        &mut text,
+        names,
+        &program.items,
+        plan.notes.list(),
+        end,
+    )?;
     append(&mut text, old.cut.after.as_bytes())?;
     Ok(text)
+}
+
+/// Adds the written file: what stands before a region, a program in its place, with what a plan
+/// says of its instructions, and what stands behind it. Their tags and symbolic registers have the
+/// names that they have in the region. After `NoMemory` nothing has changed.
+pub fn print_region<A: Arch>(
+    arch: &A,
+    alloc: Global,
+    old: &Region<'_>,
+    program: &Program,
+    plan: &Plan,
+    out: &mut Vec<u8>,
+) -> Result<(), NoMemory>
+    requires valid { AreValid A.language.isa program.now.items.items }
+    requires named { AreNamed (pairs old.now.symbols) program.now.items.items }
+    ensures ok { OnOk result (out.new.items ≡ out.old.items
+        ++ spec.written_text A.language.printed (region_of old.now) program.now.items.items
+        (plan_value plan.now)) }
+    ensures untouched { OnOk result
+        (spec.IsUntouched (region_of old.now).parts out.old.items out.new.items) }
+    ensures err { OnErr result (out.new.items ≡ out.old.items) }
+{
+    let text = written_text(arch, alloc, old, program, plan)?;
+    append(out, &text)
 }

@@ -1,5 +1,5 @@
 //! The verdict of a straight problem.
-ghost use Rattle.std.specs.Prelude.{◌≡◌, length, IfOk};
+ghost use Rattle.std.specs.Prelude.{◌≡◌, length, max, All, IfOk};
 ghost use Rattle.search_space.specs.Levels.{straight_trees, outcome, verdict};
 ghost use Rattle.search_space.specs.Levels.Outcome.{Found};
 ghost use Rattle.race_pool.specs.Verdict.{IsVerdict, HoldsVerdict};
@@ -12,7 +12,7 @@ use crate::work::Work;
 use race_pool::{Verdict, find_verdict};
 use sl_base::{Gate, NoMemory};
 use sl_model::schedule::Choice;
-use std::alloc::Global;
+use std::alloc::{AllocError, Global};
 use std::thread::Threads;
 
 /// What the search of a straight problem comes to.
@@ -33,21 +33,36 @@ pub enum Solution {
     Infeasible,
 }
 
-/// The verdict of the trees of a straight problem, over the levels from 0 up to one. All room is made
-/// before the first search.
+// Rooms for problems of at most so many items: one for each worker, where 0 counts as one.
+fn rooms_for(alloc: Global, workers: u32, items: usize) -> Result<Vec<Work>, NoMemory>
+    ensures count { IfOk result (λ rooms. length rooms.items ≡ max workers 1) }
+    ensures room { IfOk result (λ rooms. All (λ work. work.room ≡ items) rooms.items) }
+{
+    let count = workers.max(1);
+    let mut rooms = Vec::new(alloc);
+    for _ in 0..count {
+        let room = Work::with_room(alloc, items)?;
+        rooms.push(room).map_err(AllocError::from)?;
+    }
+    Ok(rooms)
+}
+
+/// The verdict of the trees of a straight problem, over the levels from 0 up to one, by so many
+/// workers, where 0 counts as one. Their rooms are made before the first search.
 pub fn solve<R: Threads + Sync, G: Gate + Sync>(
     rt: &R,
     alloc: Global,
     forest: &StraightForest,
     most: u32,
+    workers: u32,
     gate: &G,
 ) -> Result<Solution, NoMemory>
     ensures { IfOk result (λ solution.
         verdict (straight_trees forest.now.problem) most forest.now.budget ≡ verdict_of solution) }
 {
-    let mut workers = [Work::with_room(alloc, forest.problem().len())?];
-    let answer = find_verdict(rt, alloc, forest, most, &mut workers, gate)?;
-    solution_of(alloc, forest, most, answer, &workers)
+    let mut rooms = rooms_for(alloc, workers, forest.problem().len())?;
+    let answer = find_verdict(rt, alloc, forest, most, &mut rooms, gate)?;
+    solution_of(alloc, forest, most, answer, &rooms)
 }
 
 // The solution of a verdict, whose worker holds what was found.

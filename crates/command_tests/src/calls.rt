@@ -1,6 +1,6 @@
 //! Calls of the command on files and sinks in memory, and the tables that they are held against.
 use sample_set::Failing;
-use sl_base::{MemFiles, MemSink, NoGate};
+use sl_base::{Gate, MemFiles, MemSink, NoGate};
 use sl_text::text_of;
 use slothy_cli::run;
 use std::alloc::{AllocError, Global};
@@ -94,11 +94,24 @@ pub fn answer_to<R: Threads + Sync>(
     state: &[u8],
     faults: Faults,
 ) -> Result<String, AllocError> {
+    answer_past(rt, alloc, words, input, state, faults, &NoGate)
+}
+
+/// The same, where the workers pass a gate.
+pub fn answer_past<R: Threads + Sync, G: Gate + Sync>(
+    rt: &R,
+    alloc: Global,
+    words: &str,
+    input: &[u8],
+    state: &[u8],
+    faults: Faults,
+    gate: &G,
+) -> Result<String, AllocError> {
     let words = words_of(alloc, words)?;
     let mut files = files_of(alloc, input, state, faults.files)?;
     let mut out = sink_of(alloc, faults.out, faults.most)?;
     let mut err = sink_of(alloc, faults.err, 4096)?;
-    let status = run(rt, alloc, &words, &mut files, &mut out, &mut err, &NoGate);
+    let status = run(rt, alloc, &words, &mut files, &mut out, &mut err, gate);
     let code = status.code();
     let mut answer = format!(in alloc; "{code}|")?;
     push_bytes(&mut answer, out.taken())?;

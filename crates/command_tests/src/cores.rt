@@ -5,10 +5,14 @@ use sample_set::cores::{DUO, SOLO};
 use std::alloc::{AllocError, Global};
 use std::thread::Threads;
 
-/// Two loads and what waits for them, on a core that issues one instruction a cycle.
-const ON_SOLO: Usual = Usual {
+/// Two loads and what waits for them.
+pub const TWO_LOADS: &str =
+    "slothy_start:\n        ldr x1, [x0]\n        add x2, x1, x3\n        ldr x4, [x0, #8]\n        add x5, x4, x3\nslothy_end:\n";
+
+/// These, on a core that issues one instruction a cycle.
+pub const ON_SOLO: Usual = Usual {
     words: "opt k.s --core s.txt",
-    input: "slothy_start:\n        ldr x1, [x0]\n        add x2, x1, x3\n        ldr x4, [x0, #8]\n        add x5, x4, x3\nslothy_end:\n",
+    input: TWO_LOADS,
     state: SOLO,
 };
 

@@ -18,6 +18,8 @@ mod opt;
 #[cfg(test)]
 mod printing;
 #[cfg(test)]
+mod race;
+#[cfg(test)]
 mod reading;
 #[cfg(test)]
 mod run;

@@ -1,6 +1,6 @@
 //! Written files, of regions that are read and printed in their own order.
 use arm64_table::Arm64;
-use asm_printer::{Head, Plan, written_text};
+use asm_printer::{Head, Plan, Program, print_region};
 use asm_reader::{Note, Notes, Part, UnitName, Wants, read_region};
 use sample_set::Failing;
 use sl_text::text_of;
@@ -25,6 +25,8 @@ fn own_plan(alloc: Global, count: u16) -> Result<Plan, AllocError> {
             items: count,
             cycles: 7,
             stalls: 5,
+            least: 1,
+            early: 0,
         },
         notes: Notes::new(notes),
     })
@@ -74,10 +76,12 @@ fn written(alloc: Global, text: &str, count: u16) -> Result<String, AllocError> 
         return Err(AllocError);
     };
     let plan = own_plan(alloc, count)?;
-    let written = written_text(&Arm64, alloc, &region, &region.items, &plan);
-    let Ok(bytes) = written else {
+    let items = Vec::from_slice(alloc, &region.items)?;
+    let program = Program { items };
+    let mut bytes = Vec::new(alloc);
+    if print_region(&Arm64, alloc, &region, &program, &plan, &mut bytes).is_err() {
         return Err(AllocError);
-    };
+    }
     if 1 << 31 <= bytes.len() {
         return Err(AllocError);
     }

@@ -43,9 +43,11 @@ opt k.s --core one:2 --max-stalls=255|opt k.s core=one:2 most=255
 opt k.s --core one:2 --budget 1|opt k.s core=one:2 budget=1
 opt k.s --core one:2 --budget 1000000|opt k.s core=one:2
 opt k.s --core one:2 --budget=1000000000|opt k.s core=one:2 budget=1000000000
+opt k.s --core one:2 --workers 1|opt k.s core=one:2
+opt k.s --core one:2 --workers=64|opt k.s core=one:2 workers=64
 demo --core one:1 --key 0 --count 1|demo demo core=one:1 key=0 count=1
 --key=5 --count=3 demo --core=one:2 --arch=arm64|demo demo core=one:2 key=5 count=3
-demo --core solo.toml --key 18446744073709551615 --count 64 --max-stalls 0 --budget 9|demo demo core=solo.toml most=0 budget=9 key=18446744073709551615 count=64
+demo --core solo.toml --key 18446744073709551615 --count 64 --max-stalls 0 --budget 9 --workers 7|demo demo core=solo.toml most=0 budget=9 workers=7 key=18446744073709551615 count=64
 run k.s --state s.txt|run k.s state=s.txt
 run k.s --state s.txt --turns 0|run k.s state=s.txt turns=0
 run --turns=10000000 --state=-s -- k.s|run k.s state=-s turns=10000000
@@ -102,9 +104,14 @@ opt k.s --core one:2 --budget 0
 opt k.s --core one:2 --budget 1000000001
 opt k.s --core one:2 --budget=
 opt k.s --core one:2 --budget 7 --budget 7
+opt k.s --core one:2 --workers 0
+opt k.s --core one:2 --workers 65
+opt k.s --core one:2 --workers=
+opt k.s --core one:2 --workers 2 --workers 2
+cost k.s --core one:2 --workers 2
+run k.s --state s.txt --workers 2
 cost k.s --core one:2 --budget 7
 run k.s --state s.txt --budget 7
-opt k.s --core one:2 --workers 1
 opt k.s --core one:2 --key 1
 opt k.s --core one:2 --count 1
 opt k.s --core one:2 --fold all
@@ -277,12 +284,16 @@ fn push_region(text: &mut String, options: &Options) -> Result<(), AllocError> {
 fn push_numbers(text: &mut String, options: &Options) -> Result<(), AllocError> {
     let most = options.most;
     let budget = options.budget;
+    let workers = options.workers;
     let turns = options.turns;
     if most != 64 {
         write!(text, " most={most}")?;
     }
     if budget != 1000000 {
         write!(text, " budget={budget}")?;
+    }
+    if workers != 1 {
+        write!(text, " workers={workers}")?;
     }
     if let Some(state) = &options.state {
         text.push_str(" state=")?;

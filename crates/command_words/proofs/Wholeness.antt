@@ -13,7 +13,7 @@ use Rattle.sl_model.specs.Digits.{decimal_number}
 use Rattle.command_words.specs.declared.options.Mode.{Mode}
 use Rattle.command_words.specs.declared.options.Mode.TheVariants.{Cost, Opt, Run, Demo}
 use Rattle.command_words.specs.declared.options.CoreWord.{CoreWord}
-use Rattle.command_words.specs.declared.options.TheConstants.{LATENCY, MOST_STALLS, TURNS_UNSAID, MOST_BUDGET, MOST_COUNT, BUDGET_UNSAID}
+use Rattle.command_words.specs.declared.options.TheConstants.{LATENCY, MOST_STALLS, TURNS_UNSAID, MOST_BUDGET, MOST_WORKERS, MOST_COUNT, BUDGET_UNSAID}
 use Rattle.command_words.specs.Answer.{WrongUse, wrong_use}
 use Rattle.command_words.specs.Command.{within, number_in, number_or, file_name, plain_core, file_core, core_named, core_of, state_of, input_named, input_of, is_label, is_label_byte, label_or, two_labels, labels_of, live_of, free_of, mode_by, mode_of, architecture, suited, files_by, registers_by, numbers_by, kernel_by, options_of, register_set}
 use Rattle.command_words.specs.declared.table.Use.TheVariants.{Refused, Required}
@@ -38,6 +38,10 @@ unfolding number_in
 number-between least most word = within-between least most (decimal_number word)
 
 -- a number that is said or not
+number-ranged : (least unsaid most : ℕ) (word : Option Text) → least ≤ unsaid → unsaid ≤ most → IfOk (number_or least unsaid most word) (IsBetween least most)
+number-ranged least unsaid most None from to = (from, to)
+number-ranged least unsaid most (Some word) from to = number-between least most word
+
 number-most : (least unsaid most : ℕ) (word : Option Text) → unsaid ≤ most → IfOk (number_or least unsaid most word) (λ n. n ≤ most)
 number-most least unsaid most None le = le
 number-most least unsaid most (Some word) le = second (number_in least most word) (number-between least most word)
@@ -180,16 +184,17 @@ registers-whole arch look =
     step (λ (live : Option RegSet). IfSome live IsListedSet) AreSets (live_of arch (look (codes "live"))) _ (live-listed arch (look (codes "live")))
     (λ live is. step IsListedSet AreSets (free_of arch (look (codes "free"))) _ (free-listed arch (look (codes "free"))) (λ free of. (is, of)))
 
-abbrev AreNumbers : ℕ × ℕ × ℕ → Type 0
-AreNumbers numbers = (numbers.0 ≤ MOST_STALLS) × (numbers.1 ≤ MOST_BUDGET) × (numbers.2 ≤ TURNS)
+abbrev AreNumbers : ℕ × ℕ × ℕ × ℕ → Type 0
+AreNumbers numbers = (numbers.0 ≤ MOST_STALLS) × (numbers.1 ≤ MOST_BUDGET) × IsBetween 1 MOST_WORKERS numbers.2 × (numbers.3 ≤ TURNS)
 
 numbers-whole : (look : Text → Option Text) → IfOk (numbers_by look) AreNumbers
 unfolding numbers_by
 numbers-whole look =
     step (λ (n : ℕ). n ≤ MOST_STALLS) AreNumbers (number_or 0 STALLS MOST_STALLS (look (codes "max-stalls"))) _ (number-most 0 STALLS MOST_STALLS (look (codes "max-stalls")) (omega arith))
     (λ stalls few. step (λ (n : ℕ). n ≤ MOST_BUDGET) AreNumbers (number_or 1 BUDGET_UNSAID MOST_BUDGET (look (codes "budget"))) _ (number-most 1 BUDGET_UNSAID MOST_BUDGET (look (codes "budget")) (omega arith))
-    (λ budget some. step (λ (n : ℕ). n ≤ TURNS) AreNumbers (number_or 0 TURNS_UNSAID TURNS (look (codes "turns"))) _ (number-most 0 TURNS_UNSAID TURNS (look (codes "turns")) (omega arith))
-    (λ turns less. (few, some, less))))
+    (λ budget some. step (IsBetween 1 MOST_WORKERS) AreNumbers (number_or 1 1 MOST_WORKERS (look (codes "workers"))) _ (number-ranged 1 1 MOST_WORKERS (look (codes "workers")) (omega arith) (omega arith))
+    (λ workers ranged. step (λ (n : ℕ). n ≤ TURNS) AreNumbers (number_or 0 TURNS_UNSAID TURNS (look (codes "turns"))) _ (number-most 0 TURNS_UNSAID TURNS (look (codes "turns")) (omega arith))
+    (λ turns less. (few, some, ranged, less)))))
 
 kernel-whole : (look : Text → Option Text) → IfOk (kernel_by look) (λ kernel. kernel.1 ≤ MOST_COUNT)
 unfolding kernel_by
@@ -222,6 +227,7 @@ options-whole look =
       free = listed.1;
       most = few.0;
       budget = few.1;
-      turns = few.2;
+      workers = few.2;
+      turns = few.3;
       count = of;
     })))))))

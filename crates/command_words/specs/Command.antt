@@ -20,7 +20,7 @@ use Rattle.command_words.specs.declared.options.Mode.TheVariants.{Cost, Opt, Run
 use Rattle.command_words.specs.declared.options.CoreWord.{CoreWord}
 use Rattle.command_words.specs.declared.options.CoreWord.TheVariants.{Plain, File}
 use Rattle.command_words.specs.declared.options.Options.{Options}
-use Rattle.command_words.specs.declared.options.TheConstants.{LATENCY, MOST_STALLS, MOST_BUDGET, MOST_COUNT, BUDGET_UNSAID, TURNS_UNSAID}
+use Rattle.command_words.specs.declared.options.TheConstants.{LATENCY, MOST_STALLS, MOST_BUDGET, MOST_WORKERS, MOST_COUNT, BUDGET_UNSAID, TURNS_UNSAID}
 use Rattle.command_words.specs.Answer.{WrongUse, wrong_use}
 use Rattle.command_words.specs.Saying.{said_by}
 use Rattle.command_words.specs.Table.{Text, suits}
@@ -240,13 +240,14 @@ registers_by arch look = do
   free ← free_of arch (look (codes "free"))
   Ok (live, free)
 
--- the numbers: the most stalls, the budget, and the most turns
-unfoldable pub numbers_by : (Text → Option Text) → Result (ℕ × ℕ × ℕ) WrongUse
+-- the numbers: the most stalls, the budget, the workers, and the most turns
+unfoldable pub numbers_by : (Text → Option Text) → Result (ℕ × ℕ × ℕ × ℕ) WrongUse
 numbers_by look = do
   stalls ← number_or 0 STALLS MOST_STALLS (look (codes "max-stalls"))
   budget ← number_or 1 BUDGET_UNSAID MOST_BUDGET (look (codes "budget"))
+  workers ← number_or 1 1 MOST_WORKERS (look (codes "workers"))
   turns ← number_or 0 TURNS_UNSAID TURNS (look (codes "turns"))
-  Ok (stalls, budget, turns)
+  Ok (stalls, budget, workers, turns)
 
 -- the key of a kernel, and how many items it has
 unfoldable pub kernel_by : (Text → Option Text) → Result (ℕ × ℕ) WrongUse
@@ -276,8 +277,9 @@ options_of look = do
     free = registers.1;
     most = numbers.0;
     budget = numbers.1;
+    workers = numbers.2;
     state = files.2;
-    turns = numbers.2;
+    turns = numbers.3;
     key = kernel.0;
     count = kernel.1;
   })

@@ -34,6 +34,7 @@ option_lines =
     ∷ line (codes "free") Refused Taken Refused Refused
     ∷ line (codes "max-stalls") Refused Taken Refused Taken
     ∷ line (codes "budget") Refused Taken Refused Taken
+    ∷ line (codes "workers") Refused Taken Refused Taken
     ∷ line (codes "state") Refused Refused Required Refused
     ∷ line (codes "turns") Refused Refused Taken Refused
     ∷ line (codes "key") Refused Refused Refused Required

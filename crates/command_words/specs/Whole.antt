@@ -11,7 +11,7 @@ use Rattle.command_words.specs.declared.options.Mode.TheVariants.{Cost, Opt, Run
 use Rattle.command_words.specs.declared.options.CoreWord.{CoreWord}
 use Rattle.command_words.specs.declared.options.CoreWord.TheVariants.{Plain, File}
 use Rattle.command_words.specs.declared.options.Options.{Options}
-use Rattle.command_words.specs.declared.options.TheConstants.{LATENCY, MOST_STALLS, MOST_BUDGET, MOST_COUNT}
+use Rattle.command_words.specs.declared.options.TheConstants.{LATENCY, MOST_STALLS, MOST_BUDGET, MOST_WORKERS, MOST_COUNT}
 
 -- A latency is from 1 to 255, and the name of a file isn't empty.
 abbrev pub IsWholeCore : CoreWord → Type 0
@@ -56,5 +56,6 @@ pub record IsWhole (o : Options) : Type 0 where
   -- numbers are in their ranges
   pub most : o.most ≤ MOST_STALLS
   pub budget : o.budget ≤ MOST_BUDGET
+  pub workers : (1 ≤ o.workers) × (o.workers ≤ MOST_WORKERS)
   pub turns : o.turns ≤ TURNS
   pub count : o.count ≤ MOST_COUNT

@@ -11,8 +11,8 @@ mod values;
 mod word_text;
 
 pub use options::{
-    BUDGET_UNSAID, CoreWord, LATENCY, MOST_BUDGET, MOST_COUNT, MOST_STALLS, Mode, Options,
-    TURNS_UNSAID, WordsErr,
+    BUDGET_UNSAID, CoreWord, LATENCY, MOST_BUDGET, MOST_COUNT, MOST_STALLS, MOST_WORKERS, Mode,
+    Options, TURNS_UNSAID, WordsErr,
 };
 pub use reading::read_words;
 pub use sl_base::NoMemory;

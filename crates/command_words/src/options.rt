@@ -20,6 +20,9 @@ pub const MOST_BUDGET: u64 = 1000000000;
 /// How many lists of a tree a command looks at which says nothing of them.
 pub const BUDGET_UNSAID: u64 = 1000000;
 
+/// The most workers that `--workers` takes.
+pub const MOST_WORKERS: u64 = 64;
+
 /// The turns of a loop that a command takes which says nothing of them.
 pub const TURNS_UNSAID: u64 = 1000000;
 
@@ -72,6 +75,8 @@ pub struct Options {
     pub most: u32,
     /// How many lists of choices are looked at in a tree: at most 1000000000.
     pub budget: u64,
+    /// How many workers share the trees of a level: from 1 to 64.
+    pub workers: u32,
     /// The name of the state file: there is one exactly for `run`.
     pub state: Option<WordText>,
     /// The most turns of a loop that are run: at most 10000000.

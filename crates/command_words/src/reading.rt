@@ -16,8 +16,8 @@ use crate::registers::{free_of, live_of};
 use crate::table::{OptionLine, keeps, option_lines, use_by};
 use crate::values::{architecture, core_of, input_of, mode_of, number_or, state_of};
 use crate::{
-    BUDGET_UNSAID, CoreWord, MOST_BUDGET, MOST_COUNT, MOST_STALLS, Mode, Options, TURNS_UNSAID,
-    WordText, WordsErr,
+    BUDGET_UNSAID, CoreWord, MOST_BUDGET, MOST_COUNT, MOST_STALLS, MOST_WORKERS, Mode, Options,
+    TURNS_UNSAID, WordText, WordsErr,
 };
 use clap::ArgMatches;
 use sl_isa::{ArchName, RegSet};
@@ -97,9 +97,9 @@ fn registers_by(
     Ok((live, free))
 }
 
-// The most stalls, the budget, and the most turns.
+// The most stalls, the budget, the workers, and the most turns.
 #[tactic(auto, unfolding(crate::specs::Command::numbers_by))]
-fn numbers_by(matches: &ArgMatches<'_>) -> Result<(u32, u64, u64), WordsErr>
+fn numbers_by(matches: &ArgMatches<'_>) -> Result<(u32, u64, u32, u64), WordsErr>
     ensures { Gives usage_of (λ numbers. numbers) result
         (spec.numbers_by (first_value (found_of matches.now))) }
 {
@@ -110,8 +110,9 @@ fn numbers_by(matches: &ArgMatches<'_>) -> Result<(u32, u64, u64), WordsErr>
         matches.get_str("max-stalls"),
     )?;
     let budget = number_or(1, BUDGET_UNSAID, MOST_BUDGET, matches.get_str("budget"))?;
+    let workers = number_or(1, 1, MOST_WORKERS, matches.get_str("workers"))?;
     let turns = number_or(0, TURNS_UNSAID, u64::from(TURNS), matches.get_str("turns"))?;
-    Ok((stalls as u32, budget, turns))
+    Ok((stalls as u32, budget, workers as u32, turns))
 }
 
 // The key of a kernel, and how many items it has.
@@ -136,7 +137,7 @@ fn options_of(alloc: Global, matches: &ArgMatches<'_>) -> Result<Options, WordsE
     let (input, core, state) = files_by(alloc, mode, matches)?;
     let (start, end) = labels_of(alloc, matches.get_str("start"), matches.get_str("end"))?;
     let (live, free) = registers_by(alloc, arch, matches)?;
-    let (most, budget, turns) = numbers_by(matches)?;
+    let (most, budget, workers, turns) = numbers_by(matches)?;
     let (key, count) = kernel_by(matches)?;
     Ok(Options {
         mode,
@@ -149,6 +150,7 @@ fn options_of(alloc: Global, matches: &ArgMatches<'_>) -> Result<Options, WordsE
         free,
         most,
         budget,
+        workers,
         state,
         turns,
         key,

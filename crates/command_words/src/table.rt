@@ -42,7 +42,7 @@ fn line(name: &'static str, cost: Use, opt: Use, run: Use, demo: Use) -> OptionL
 
 /// All options, with their uses by `cost`, `opt`, `run` and `demo`.
 #[tactic(auto, unfolding(crate::specs::Table::option_lines))]
-pub(crate) fn option_lines() -> [OptionLine; 12]
+pub(crate) fn option_lines() -> [OptionLine; 13]
     ensures { map line_value result ≡ option_lines }
 {
     [
@@ -66,6 +66,13 @@ pub(crate) fn option_lines() -> [OptionLine; 12]
             Use::Taken,
         ),
         line("budget", Use::Refused, Use::Taken, Use::Refused, Use::Taken),
+        line(
+            "workers",
+            Use::Refused,
+            Use::Taken,
+            Use::Refused,
+            Use::Taken,
+        ),
         line(
             "state",
             Use::Refused,

@@ -1,6 +1,6 @@
 -- What the trees of a level have. The outcomes are given as a function of the tree. Source: the first
 -- of a list that passes a test.
-use Rattle.std.specs.Prelude.{◌≡◌, ◌≢◌, ℕ, ◌<◌, Bool, true, false, List, Option, Some, None, ◌⊎◌, IsSomeAnd, slice_get}
+use Rattle.std.specs.Prelude.{◌≡◌, ◌≢◌, ℕ, ◌<◌, Bool, true, false, List, ◌⊎◌, IsSomeAnd, slice_get}
 use Rattle.race_pool.specs.declared.forest.Outcome.{Outcome}
 use Rattle.race_pool.specs.declared.forest.Outcome.TheVariants.{Found, Nothing, Spent}
 use Rattle.race_pool.specs.declared.level.LevelAnswer.{LevelAnswer}
@@ -35,10 +35,3 @@ abbrev pub HoldsFirst : {W : Type 0} → (W → ℕ → Type 0) → List W → L
 HoldsFirst holds workers AllNothing = Unit {0}
 HoldsFirst holds workers (First tree worker spent) =
     spent ≡ false → IsHeld holds workers worker tree
-
--- what one worker finds that takes so many trees in their order
-abbrev pub Scanned : (ℕ → Outcome) → ℕ → (ℕ → Type 0) → Option (ℕ × Bool) → Type 0
-Scanned outcome count holds None = HaveNothing outcome count
-Scanned outcome count holds (Some found) =
-    IsFirst outcome count found.0 × IsSpent outcome found.0 found.1
-    × (found.1 ≡ false → holds found.0)

@@ -1,2 +1,11 @@
 pub mod Level
 pub mod Verdict
+pub mod Decisive
+pub mod Race
+pub mod Told
+pub mod Marks
+pub mod Seats
+pub mod Turn
+pub mod Ended
+pub mod Half
+pub mod Settled

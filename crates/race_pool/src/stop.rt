@@ -1,5 +1,5 @@
 //! What tells a search to stop.
-ghost use Rattle.std.specs.Prelude.{◌≡◌, ℕ, ◌+◌, ◌-◌, ◌^◌, ◌≤◌, Bool, false, min, ◌||◌};
+ghost use Rattle.std.specs.Prelude.{◌≡◌, ℕ, ◌+◌, ◌-◌, ◌^◌, ◌≤◌, Bool, min, ◌||◌};
 
 /// Something that a search asks before each step whether it is called off.
 pub trait Stop {
@@ -21,32 +21,4 @@ pub trait Stop {
         ensures counted { min (polls self.old + 1) (2 ^ 64 - 1) ≤ polls self.new }
         ensures grows { polls self.old ≤ polls self.new }
         ensures kept { mark self.new ≡ mark self.old };
-}
-
-/// A stop that never calls a search off.
-#[derive(Drop)]
-pub struct NoStop {
-    polls: u64,
-}
-
-impl NoStop {
-    /// It was asked nothing yet.
-    pub fn new() -> NoStop {
-        NoStop { polls: 0 }
-    }
-}
-
-impl Stop for NoStop {
-    type Mark = ();
-
-    ghost told = { λ _. false };
-
-    ghost polls = { λ s. s.polls };
-
-    ghost mark = { λ _. tt };
-
-    fn poll(&mut self) -> bool {
-        self.polls = self.polls.saturating_add(1);
-        false
-    }
 }

@@ -1,5 +1,5 @@
 //! The levels, one after the other.
-ghost use Rattle.std.specs.Prelude.{◌≡◌, ℕ, length, All, IfOk};
+ghost use Rattle.std.specs.Prelude.{◌≡◌, ℕ, ◌<◌, length, All, IfOk};
 ghost use Rattle.race_pool.specs.Verdict.{IsVerdict, HoldsVerdict};
 
 use crate::forest::Forest;
@@ -32,9 +32,10 @@ pub fn find_verdict<R: Threads + Sync, F: Forest + Sync, G: Gate + Sync>(
     workers: &mut [F::Worker],
     gate: &G,
 ) -> Result<Verdict, NoMemory>
-    requires one { length workers.old ≡ 1 }
+    requires some { 0 < length workers.old }
     requires fits { All (F.fits forest.now) workers.old }
     ensures fits { All (F.fits forest.now) workers.new }
+    ensures kept { length workers.new ≡ length workers.old }
     ensures verdict { IfOk result
         (IsVerdict (F.outcome forest.now) (F.tree_count forest.now) most) }
     ensures held { IfOk result (HoldsVerdict (F.holds forest.now) workers.new) }

@@ -18,6 +18,8 @@ mod lines;
 #[cfg(test)]
 mod problems;
 #[cfg(test)]
+mod race;
+#[cfg(test)]
 mod search;
 #[cfg(test)]
 mod second_pass;

@@ -160,16 +160,18 @@ fn schedule_text(
     Ok(text)
 }
 
-/// The verdict of a region whose schedules may have at most so many stalls, as a text.
+/// The verdict of a region whose schedules may have at most so many stalls, by so many workers, as a
+/// text.
 fn shown<R: Threads + Sync>(
     rt: &R,
     alloc: Global,
     region: &Region,
     most: u32,
     budget: u64,
+    workers: u32,
 ) -> Result<String, NoMemory> {
     let forest = forest_of(alloc, region, budget)?;
-    match solve(rt, alloc, &forest, most, &NoGate)? {
+    match solve(rt, alloc, &forest, most, workers, &NoGate)? {
         Solution::Found { schedule, .. } => schedule_text(alloc, forest.problem(), &schedule),
         Solution::Spent { level, tree } => {
             let mut text = String::new(alloc);
@@ -182,6 +184,24 @@ fn shown<R: Threads + Sync>(
 
 /// A budget that is never spent here.
 const AMPLE: u64 = 1000000;
+
+/// How many workers find the same.
+const WORKERS: [u32; 5] = [0, 1, 2, 7, 64];
+
+/// Notes a region whose verdict by some number of workers isn't the one that is wanted.
+fn compare_all<R: Threads + Sync>(
+    rt: &R,
+    alloc: Global,
+    failing: &mut Failing,
+    case: Case,
+    budget: u64,
+) {
+    let (name, region, most, wanted) = case;
+    for workers in WORKERS {
+        let found = shown(rt, alloc, &region, most, budget, workers).map_err(|_| AllocError);
+        failing.compare(name, found, wanted);
+    }
+}
 
 /// A name, a region, how many stalls its schedules may have, and the best of them.
 type Case = (&'static str, Region, u32, &'static str);
@@ -242,9 +262,8 @@ const CASES: [Case; 10] = [
 #[test]
 fn the_best_schedule_is_found(rt: HostRuntime) -> Failing {
     let mut failing = Failing::new(rt.alloc());
-    for (name, region, most, wanted) in &CASES {
-        let found = shown(&rt, rt.alloc(), region, *most, AMPLE).map_err(|_| AllocError);
-        failing.compare(name, found, wanted);
+    for case in CASES {
+        compare_all(&rt, rt.alloc(), &mut failing, case, AMPLE);
     }
     failing
 }
@@ -284,9 +303,9 @@ const BUDGETS: [BudgetCase; 6] = [
 #[test]
 fn a_budget_is_spent_where_it_ends(rt: HostRuntime) -> Failing {
     let mut failing = Failing::new(rt.alloc());
-    for (name, region, budget, wanted) in &BUDGETS {
-        let found = shown(&rt, rt.alloc(), region, 64, *budget).map_err(|_| AllocError);
-        failing.compare(name, found, wanted);
+    for (name, region, budget, wanted) in BUDGETS {
+        let case = (name, region, 64, wanted);
+        compare_all(&rt, rt.alloc(), &mut failing, case, budget);
     }
     failing
 }
@@ -417,7 +436,7 @@ fn is_fewest<R: Threads + Sync>(rt: &R, alloc: Global, region: &Region) -> Resul
     let forest = forest_of(alloc, region, AMPLE)?;
     let problem = forest.problem();
     let schedules = all_schedules(alloc, problem)?;
-    let Solution::Found { schedule, .. } = solve(rt, alloc, &forest, 255, &NoGate)? else {
+    let Solution::Found { schedule, .. } = solve(rt, alloc, &forest, 255, 1, &NoGate)? else {
         return Ok(false);
     };
     let stalls = times_of_all(alloc, problem, &schedule)?.stalls;

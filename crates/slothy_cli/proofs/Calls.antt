@@ -148,7 +148,7 @@ job_alike language cost setting a b h k = alike_same a b (h ∙ sym k)
 job_alike language (opt aim) setting a b h k =
     searched_alike (region_problem language.isa aim setting) aim.most (region_searched language.isa aim setting) (FoundAnswers language aim setting) a b (λ schedule. found_alike language aim setting schedule a b) h k
 job_alike language (demo aim key count) setting a b h k =
-    searched_alike (region_problem language.isa aim setting) aim.most (region_searched language.isa aim setting) (KernelAnswers language aim key count setting) a b (λ schedule h k. alike_same a b (h.1 ∙ sym k.1)) h k
+    searched_alike (region_problem language.isa aim setting) aim.most (region_searched language.isa aim setting) (KernelAnswers language aim key count setting) a b (λ schedule h k. alike_same a b (h.2 ∙ sym k.2)) h k
 
 work_alike : (language : Language) (work : Work) (a b : Result (List ℕ) Stop) → WorkAnswers language work a → WorkAnswers language work b → AreAlike a b
 work_alike language (scheduling job setting) a b h k = job_alike language job setting a b h k

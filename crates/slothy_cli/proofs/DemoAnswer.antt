@@ -5,6 +5,7 @@ use Rattle.sl_model.specs.Answers.{Gives, Settles}
 use Rattle.sl_model.specs.Legal.{Problem}
 use Rattle.sl_model.specs.Space.{IsBest, stalls_of}
 use Rattle.sl_isa.specs.Language.{Language}
+use Rattle.search_space.specs.Searchable.{IsSearchable}
 use Rattle.slothy_cli.specs.declared.stop.Failure.{Failure}
 use Rattle.slothy_cli.specs.declared.stop.Failure.TheVariants.{Stopped, NoMemory}
 use Rattle.slothy_cli.specs.declared.stop.Stop.{Stop}
@@ -16,7 +17,7 @@ use Rattle.slothy_cli.specs.Plan.{region_problem}
 use Rattle.slothy_cli.specs.Searched.{region_searched, IsBestOf}
 use Rattle.slothy_cli.specs.Setting.{Setting}
 use Rattle.slothy_cli.specs.Shown.{stop_told}
-use Rattle.slothy_cli.proofs.Searched.{answers-found}
+use Rattle.slothy_cli.proofs.Searched.{best-fewest, answers-found}
 
 -- the line of the best schedule, or want of memory
 pub line-settles : {X : Type 0} (language : Language) (aim : Aim) (key count : ℕ) (setting : Setting) (problem : Problem) (schedule : List Choice) (before : ℕ) → IsBestOf language.isa aim setting problem schedule
@@ -25,6 +26,7 @@ pub line-settles : {X : Type 0} (language : Language) (aim : Aim) (key count : �
 line-settles language aim key count setting problem schedule before best came own view (Ok x) told =
     answers-found (region_problem language.isa aim setting) aim.most (region_searched language.isa aim setting) (KernelAnswers language aim key count setting) schedule (Ok (view x)) came (
       subst (λ p. IsBest p aim.most schedule) best.is best.best,
+      best-fewest language.isa aim setting (subst IsSearchable best.is best.searchable) schedule (subst (λ p. IsBest p aim.most schedule) best.is best.best),
       sym told ∙ ap (λ n. Ok (demo_line key count n (stalls_of problem schedule))) own ∙ ap (λ p. Ok (demo_line key count (own_stalls language.isa setting) (stalls_of p schedule))) best.is,
     )
 line-settles language aim key count setting problem schedule before best came own view (Err (Stopped stop)) told = absurd (cc)

@@ -34,6 +34,7 @@ use Rattle.slothy_cli.specs.Shown.{stop_told}
 use Rattle.slothy_cli.proofs.Marks.{applied-marked}
 use Rattle.slothy_cli.proofs.OptChoices.{legal-known, legal-units, legal-on_core, legal-length}
 use Rattle.slothy_cli.proofs.Plans.{length-applied, plan-length}
+use Rattle.slothy_cli.proofs.Searched.{best-fewest}
 
 -- Is a plan one that is printed and read again: its numbers are small, and its units have names?
 abbrev pub IsPlanRight : Setting → Problem → List Choice → Type 0
@@ -59,6 +60,7 @@ opt-text language aim setting schedule text lawful sound searchable best plan is
     (omega (arith, length-applied (body_of problem.graph) [] schedule)) spelled right.names marks plan.1 plan.0 (plan-length setting.core problem schedule) (is-line_end region.parts.before) in
     record {
       best = best;
+      fewest = best-fewest language.isa aim setting searchable schedule best;
       text_is = is;
       new = again.new;
       reads = again.is;

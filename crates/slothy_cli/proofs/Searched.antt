@@ -5,12 +5,14 @@ use Rattle.sl_model.specs.declared.schedule.Choice.{Choice}
 use Rattle.sl_model.specs.Answers.{Gives, Refuses, RefusesBy}
 use Rattle.sl_model.specs.Isa.{Isa}
 use Rattle.sl_model.specs.Legal.{Problem}
-use Rattle.sl_model.specs.Space.{IsBest}
+use Rattle.sl_model.specs.Space.{InSpace, IsBest}
 use Rattle.search_space.specs.Levels.{Verdict, straight_trees, verdict}
 use Rattle.search_space.specs.Levels.Outcome.{Found, Spent, Nothing}
 use Rattle.search_space.specs.Levels.Verdict.{First, Infeasible}
 use Rattle.search_space.specs.Searchable.{IsSearchable}
 use Rattle.search_space.proofs.ForCallers.{loses-nothing, verdict-first}
+use Rattle.register_exchange.proofs.ForCallers.{straight-stands-for-all}
+use Rattle.register_exchange.specs.Lost.{StandsForAll}
 use Rattle.bnb_solver.specs.Straight.{Straight as TreesOf, IsRefused}
 use Rattle.bnb_solver.specs.declared.refusal.ForestErr.{ForestErr}
 use Rattle.bnb_solver.specs.declared.refusal.ForestErr.TheVariants as refusals
@@ -23,10 +25,14 @@ use Rattle.slothy_cli.specs.declared.stop.Stop.{Stop}
 use Rattle.slothy_cli.specs.declared.stop.Stop.TheVariants as stops
 use Rattle.slothy_cli.specs.Command.{Aim}
 use Rattle.slothy_cli.specs.Outcome.{ForestAnswers, StopAnswers, trees_stop}
-use Rattle.slothy_cli.specs.Plan.{region_problem}
-use Rattle.slothy_cli.specs.Searched.{too_many_trees, schedule_in, searched, region_searched, IsEmptySpace, IsBestOf}
+use Rattle.slothy_cli.specs.Plan.{region_frame, region_problem}
+use Rattle.slothy_cli.specs.Searched.{too_many_trees, schedule_in, searched, region_searched, HasFewest, IsOutOfReach, IsBestOf}
 use Rattle.slothy_cli.specs.Setting.{Setting}
 use Rattle.slothy_cli.specs.Shown.{stop_told}
+
+-- no schedule of the space has at most so many stalls
+abbrev IsEmptySpace : Problem → ℕ → Type 0
+IsEmptySpace problem most = (schedule : List Choice) → InSpace problem most schedule → ⊥
 
 -- ---- the trees
 
@@ -53,10 +59,10 @@ module _ (problem : Problem) (most budget : ℕ) where
   refused-search None r = tt
   refused-search (Some stop) r = searched-many r.1 ∙ ap Err (sym r.0)
 
-  -- and say nothing of the space
-  pub refused-space : (o : Option Stop) → RefusesBy o (ForestAnswers problem budget) → o ≡ Some (stops.Infeasible most) → IsEmptySpace problem most
-  refused-space None r is = absurd (cc)
-  refused-space (Some stop) r is = absurd (let same : Some too_many_trees ≡ Some (stops.Infeasible most) = ap Some (sym r.0) ∙ is in cc)
+  -- and say nothing of what is out of reach
+  pub refused-reach : (o : Option Stop) → RefusesBy o (ForestAnswers problem budget) → o ≡ Some (stops.Infeasible most) → IsOutOfReach problem most
+  refused-reach None r is = absurd (cc)
+  refused-reach (Some stop) r is = absurd (let same : Some too_many_trees ≡ Some (stops.Infeasible most) = ap Some (sym r.0) ∙ is in cc)
 
   module _ (searchable : IsSearchable problem) where
     -- a schedule that was found is the best
@@ -77,7 +83,7 @@ module _ (problem : Problem) (most budget : ℕ) where
         many false e = by (verdict (straight_trees problem) most budget) refl e
 
     -- where none has few enough stalls, the space is empty
-    pub searched-empty : searched problem most budget ≡ Err (stops.Infeasible most) → IsEmptySpace problem most
+    searched-empty : searched problem most budget ≡ Err (stops.Infeasible most) → IsEmptySpace problem most
     unfolding searched
     searched-empty is = many (nat_lt TREES (length (straight_trees problem))) is
       where
@@ -93,6 +99,19 @@ module _ (problem : Problem) (most budget : ℕ) where
 
 -- ---- a region's problem
 
+module _ (isa : Isa) (aim : Aim) (setting : Setting) (searchable : IsSearchable (region_problem isa aim setting)) where
+  -- the space stands for all full legal schedules
+  stands : StandsForAll (region_problem isa aim setting) aim.most
+  stands = straight-stands-for-all isa setting.region.items (region_frame aim setting.region.items) setting.costs searchable aim.most
+
+  -- so its best has the fewest stalls of all
+  pub best-fewest : (schedule : List Choice) → IsBest (region_problem isa aim setting) aim.most schedule → HasFewest (region_problem isa aim setting) schedule
+  best-fewest schedule best other full = stands.best schedule other best full
+
+  -- and where it is empty, none has so few
+  empty-reach : IsEmptySpace (region_problem isa aim setting) aim.most → IsOutOfReach (region_problem isa aim setting) aim.most
+  empty-reach empty = stands.none empty
+
 module _ (isa : Isa) (aim : Aim) (setting : Setting) (forest : TreesOf) (is : forest ≡ record { problem = region_problem isa aim setting; budget = aim.budget }) (searchable : IsSearchable forest.problem) where
   -- what was found
   pub best-of : (result : Result Best Failure) → Gives stop_told (λ (best : Best). best.schedule.items) result (searched forest.problem aim.most forest.budget)
@@ -105,13 +124,14 @@ module _ (isa : Isa) (aim : Aim) (setting : Setting) (forest : TreesOf) (is : fo
   best-of (Err failure) told same = tt
 
   -- why none was
-  pub empty-of : (result : Result Best Failure) → Gives stop_told (λ (best : Best). best.schedule.items) result (searched forest.problem aim.most forest.budget)
-      → IfErr result (λ (failure : Failure). stop_told failure ≡ Some (stops.Infeasible aim.most) → IsEmptySpace (region_problem isa aim setting) aim.most)
-  empty-of (Ok best) told = tt
-  empty-of (Err failure) told = λ why.
-      subst (λ (f : TreesOf). IsEmptySpace f.problem aim.most) is
+  pub out_of_reach-of : (result : Result Best Failure) → Gives stop_told (λ (best : Best). best.schedule.items) result (searched forest.problem aim.most forest.budget)
+      → IfErr result (λ (failure : Failure). stop_told failure ≡ Some (stops.Infeasible aim.most) → IsOutOfReach (region_problem isa aim setting) aim.most)
+  out_of_reach-of (Ok best) told = tt
+  out_of_reach-of (Err failure) told = λ why.
+      empty-reach isa aim setting (subst (λ (f : TreesOf). IsSearchable f.problem) is searchable)
+      (subst (λ (f : TreesOf). IsEmptySpace f.problem aim.most) is
       (searched-empty forest.problem aim.most forest.budget searchable
-      (subst (λ o. Refuses o (searched forest.problem aim.most forest.budget)) why told))
+      (subst (λ o. Refuses o (searched forest.problem aim.most forest.budget)) why told)))
 
 -- a schedule that is handed on, with its problem
 pub handed : (isa : Isa) (aim : Aim) (setting : Setting) (problem given : Problem) (schedule x : List Choice) → IsBestOf isa aim setting problem schedule → given ≡ problem → x ≡ schedule → IsBestOf isa aim setting given x
@@ -127,9 +147,9 @@ module _ (problem : Problem) (most : ℕ) (came : Result (List Choice) Stop) (Is
   answers-found schedule answer is right = subst (λ r. MatchResult r (λ schedule. IsFor schedule answer) (λ stop. StopAnswers problem most stop answer)) (sym is) right
 
   -- where none was
-  pub answers-stopped : (told : Option Stop) → Refuses told came → (told ≡ Some (stops.Infeasible most) → IsEmptySpace problem most)
+  pub answers-stopped : (told : Option Stop) → Refuses told came → (told ≡ Some (stops.Infeasible most) → IsOutOfReach problem most)
       → RefusesBy told (λ answer. MatchResult came (λ schedule. IsFor schedule answer) (λ stop. StopAnswers problem most stop answer))
-  answers-stopped None refuses empty = tt
-  answers-stopped (Some stop) refuses empty =
+  answers-stopped None refuses reach = tt
+  answers-stopped (Some stop) refuses reach =
       subst (λ r. MatchResult r (λ schedule. IsFor schedule (Err stop)) (λ why. StopAnswers problem most why (Err stop))) (sym refuses)
-      (refl, λ why. empty (ap Some why))
+      (refl, λ why. reach (ap Some why))

@@ -32,14 +32,16 @@ use Rattle.slothy_cli.specs.Inputs.{file_core, file_region, region_costs, run_an
 use Rattle.slothy_cli.specs.Plan.{region_frame, region_problem, schedule_text, schedule_file}
 use Rattle.slothy_cli.specs.CostText.{cost_text, own_stalls}
 use Rattle.slothy_cli.specs.DemoLine.{demo_line}
-use Rattle.slothy_cli.specs.Searched.{too_many_trees, region_searched, IsEmptySpace}
+use Rattle.slothy_cli.specs.Searched.{too_many_trees, region_searched, HasFewest, IsOutOfReach}
 use Rattle.demo_kernel.specs.Kernel.{kernel_text}
 
--- The text of `opt`: the written file of a schedule, which is the best of the space; and its region,
--- read by itself, leaves what the old one leaves, from every state.
+-- The text of `opt`: the written file of a schedule, which is the best of the space, and no full
+-- legal one has fewer stalls; and its region, read by itself, leaves what the old one leaves, from
+-- every state.
 pub record OptText (language : Language) (aim : Aim) (setting : Setting)
     (schedule : List Choice) (text : List ℕ) : Type 0 where
   pub best : IsBest (region_problem language.isa aim setting) aim.most schedule
+  pub fewest : HasFewest (region_problem language.isa aim setting) schedule
   pub text_is : text
       ≡ schedule_file language setting.core setting.region
       (region_problem language.isa aim setting) schedule
@@ -59,11 +61,11 @@ abbrev pub FoundAnswers : Language → Aim → Setting → List Choice → Resul
 FoundAnswers language aim setting schedule (Ok text) = OptText language aim setting schedule text
 FoundAnswers language aim setting schedule (Err stop) = ⊥
 
--- what is answered where a search finds no schedule: why; and where that is because none has so few
--- stalls, the space is empty
+-- what is answered where a search finds no schedule: why; and where that is for want of one with so
+-- few stalls, no full legal one has so few
 abbrev pub StopAnswers : Problem → ℕ → Stop → Result (List ℕ) Stop → Type 0
 StopAnswers problem most stop answer =
-    (answer ≡ Err stop) × (stop ≡ stops.Infeasible most → IsEmptySpace problem most)
+    (answer ≡ Err stop) × (stop ≡ stops.Infeasible most → IsOutOfReach problem most)
 
 -- what `opt` answers to a region on a core, by what the search of its problem gives
 abbrev pub OptAnswers : Language → Aim → Setting → Result (List ℕ) Stop → Type 0
@@ -72,12 +74,13 @@ OptAnswers language aim setting answer =
     (λ schedule. FoundAnswers language aim setting schedule answer)
     (λ stop. StopAnswers (region_problem language.isa aim setting) aim.most stop answer)
 
--- What is answered to a kernel where a schedule was found: it is the best, and the line has the stalls
--- of the region as it stands, and those of this schedule.
+-- What is answered to a kernel where a schedule was found: it is the best, no full legal one has fewer
+-- stalls, and the line has the stalls of the region as it stands, and those of this schedule.
 abbrev pub KernelAnswers : Language → Aim → ℕ → ℕ → Setting → List Choice → Result (List ℕ) Stop
     → Type 0
 KernelAnswers language aim key count setting schedule answer =
     IsBest (region_problem language.isa aim setting) aim.most schedule
+    × HasFewest (region_problem language.isa aim setting) schedule
     × (answer ≡ Ok (demo_line key count (own_stalls language.isa setting)
     (stalls_of (region_problem language.isa aim setting) schedule)))
 

@@ -16,6 +16,7 @@ use Rattle.asm_reader.specs.Reading.{Region}
 use Rattle.core_text.specs.Core.{CoreTable, unit_name}
 use Rattle.slothy_cli.specs.Command.{Aim}
 use Rattle.slothy_cli.specs.Setting.{Setting}
+use Rattle.asm_printer.specs.declared.plan.Head.{Head}
 use Rattle.asm_printer.specs.Printed.{PlanValue, line_end, region_text, written_text}
 
 -- the registers that live on behind the items of a region, and those that may be written
@@ -45,11 +46,16 @@ notes_of core (i ∷ items) (c ∷ choices) [] = []
 notes_of core (i ∷ items) (c ∷ choices) (cycle ∷ cycles) =
     note_of c.item (unit_name core c.unit) cycle i.line ∷ notes_of core items choices cycles
 
+-- the first line of a straight list
+abbrev pub head_of : ℕ → ℕ → ℕ → Head
+head_of items cycles stalls =
+    record { items = items; cycles = cycles; stalls = stalls; least = 1; early = 0 }
+
 -- the plan of instructions, with their choices and cycles, of how many cycles they take, and of
 -- the stalls among these
 abbrev pub plan_from : CoreTable → List Instr → List Choice → List ℕ → ℕ → ℕ → PlanValue
 plan_from core items schedule cycles count stalls = record {
-  head = record { items = length schedule; cycles = count; stalls = stalls };
+  head = head_of (length schedule) count stalls;
   notes = notes_of core items schedule cycles;
 }
 

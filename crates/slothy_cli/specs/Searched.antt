@@ -1,9 +1,9 @@
 -- What the search of a problem's trees comes to, and what is known of the schedule that it finds. Source: the verdict over levels and trees.
-use Rattle.std.specs.Prelude.{ℕ, ◌≡◌, nat_lt, List, length, Result, Ok, Err, if◌then◌else◌}
+use Rattle.std.specs.Prelude.{ℕ, ◌≡◌, ◌<◌, ◌≤◌, nat_lt, List, length, Result, Ok, Err, if◌then◌else◌}
 use Rattle.sl_model.specs.declared.schedule.Choice.{Choice}
 use Rattle.sl_model.specs.Isa.{Isa}
-use Rattle.sl_model.specs.Legal.{Problem}
-use Rattle.sl_model.specs.Space.{InSpace, IsBest}
+use Rattle.sl_model.specs.Legal.{Problem, IsFullLegal}
+use Rattle.sl_model.specs.Space.{IsBest, stalls_of}
 use Rattle.search_space.specs.Levels.{Verdict, straight_trees, verdict}
 use Rattle.search_space.specs.Levels.Outcome.{Found, Spent, Nothing}
 use Rattle.search_space.specs.Levels.Verdict.{First, Infeasible}
@@ -40,9 +40,15 @@ abbrev pub region_searched : Isa → Aim → Setting → Result (List Choice) St
 region_searched isa aim setting =
     searched (region_problem isa aim setting) aim.most aim.budget
 
--- No schedule has at most so many stalls.
-abbrev pub IsEmptySpace : Problem → ℕ → Type 0
-IsEmptySpace problem most = (schedule : List Choice) → InSpace problem most schedule → ⊥
+-- No full legal schedule, whatever its order, units and registers, has fewer stalls than this one.
+abbrev pub HasFewest : Problem → List Choice → Type 0
+HasFewest problem schedule = (other : List Choice) → IsFullLegal problem other
+    → stalls_of problem schedule ≤ stalls_of problem other
+
+-- No full legal schedule, whatever its order, units and registers, has at most so many stalls.
+abbrev pub IsOutOfReach : Problem → ℕ → Type 0
+IsOutOfReach problem most = (other : List Choice) → IsFullLegal problem other
+    → most < stalls_of problem other
 
 -- A schedule is the best of the problem of a region on a core.
 pub record IsBestOf (isa : Isa) (aim : Aim) (setting : Setting) (problem : Problem)

@@ -9,7 +9,7 @@ ghost use Rattle.slothy_cli.specs.declared.stop.Stop.TheVariants as stops;
 ghost use Rattle.slothy_cli.specs.Outcome.{ForestAnswers, trees_stop};
 ghost use Rattle.slothy_cli.specs.Plan.{region_problem};
 ghost use Rattle.slothy_cli.specs.Searched as spec;
-ghost use Rattle.slothy_cli.specs.Searched.{searched, region_searched, IsEmptySpace, IsBestOf};
+ghost use Rattle.slothy_cli.specs.Searched.{searched, region_searched, IsOutOfReach, IsBestOf};
 ghost use Rattle.slothy_cli.specs.Setting.{IsSetting};
 ghost use Rattle.slothy_cli.specs.Shown.{shown_aim, setting_of, stop_told};
 
@@ -91,15 +91,15 @@ fn search_trees<R: Threads + Sync, G: Gate + Sync>(
     rt: &R,
     alloc: Global,
     forest: &StraightForest,
-    most: u32,
+    aim: Aim,
     gate: &G,
 ) -> Result<Vec<Choice>, Failure>
     requires few { nat_lt TREES (length (straight_trees forest.now.problem)) ≡ false }
     ensures { Gives stop_told (λ schedule. schedule.items) result
-        (searched forest.now.problem most forest.now.budget) }
+        (searched forest.now.problem aim.most forest.now.budget) }
 {
-    let solution = solve(rt, alloc, forest, most, gate)?;
-    schedule_in(most, solution)
+    let solution = solve(rt, alloc, forest, aim.most, aim.workers, gate)?;
+    schedule_in(aim.most, solution)
 }
 
 // The best schedule of the problem of trees, of which there aren't too many.
@@ -107,25 +107,25 @@ fn best_in<R: Threads + Sync, G: Gate + Sync>(
     rt: &R,
     alloc: Global,
     forest: StraightForest,
-    most: u32,
+    aim: Aim,
     gate: &G,
 ) -> Result<Best, Failure>
     requires few { nat_lt TREES (length (straight_trees forest.problem)) ≡ false }
     ensures answer { Gives stop_told (λ best. best.schedule.items) result
-        (searched forest.problem most forest.budget) }
+        (searched forest.problem aim.most forest.budget) }
     ensures same { IfOk result (λ best. best.forest ≡ forest) }
     ensures searchable { IsSearchable forest.problem }
 {
     let problem = forest.problem();
     problem.is_searchable();
-    match search_trees(rt, alloc, &forest, most, gate) {
+    match search_trees(rt, alloc, &forest, aim, gate) {
         Ok(schedule) => Ok(Best { forest, schedule }),
         Err(failure) => Err(failure),
     }
 }
 
-/// The best schedule of the problem of a region; or that no schedule has few enough stalls, and then
-/// the space is empty; or where the budget was spent; or that there are too many trees.
+/// The best schedule of the problem of a region; or that no schedule, whatever its registers, has few
+/// enough stalls; or where the budget was spent; or that there are too many trees.
 pub(crate) fn best_of<A: Arch, R: Threads + Sync, G: Gate + Sync>(
     arch: &A,
     rt: &R,
@@ -139,12 +139,12 @@ pub(crate) fn best_of<A: Arch, R: Threads + Sync, G: Gate + Sync>(
         (region_searched A.language.isa (shown_aim aim) (setting_of setting.entry)) }
     ensures best { IfOk result (λ best. IsBestOf A.language.isa (shown_aim aim)
         (setting_of setting.entry) best.forest.problem best.schedule.items) }
-    ensures empty { IfErr result (λ failure. stop_told failure ≡ Some (stops.Infeasible aim.most)
-        → IsEmptySpace (region_problem A.language.isa (shown_aim aim) (setting_of setting.entry))
+    ensures out_of_reach { IfErr result (λ failure. stop_told failure ≡ Some (stops.Infeasible aim.most)
+        → IsOutOfReach (region_problem A.language.isa (shown_aim aim) (setting_of setting.entry))
         aim.most) }
 {
     match forest_for(arch, alloc, setting, aim) {
-        Ok(forest) => best_in(rt, alloc, forest, aim.most, gate),
+        Ok(forest) => best_in(rt, alloc, forest, aim, gate),
         Err(failure) => Err(failure),
     }
 }

@@ -22,6 +22,8 @@ pub struct Aim {
     pub most: u32,
     /// How many lists of choices are looked at in a tree.
     pub budget: u64,
+    /// How many workers share the trees of a level. No answer depends on it.
+    pub workers: u32,
 }
 
 /// What is done with a region on a core.
@@ -120,6 +122,7 @@ fn aim_in(options: &Options) -> Aim
         free: options.free,
         most: options.most,
         budget: options.budget,
+        workers: options.workers,
     }
 }
 

@@ -22,7 +22,7 @@ use crate::command::Aim;
 use crate::plan::plan_of;
 use crate::setting::Setting;
 use crate::stop::Failure;
-use asm_printer::written_text;
+use asm_printer::{Program, print_region};
 use legal_space::{Choice, Problem, times_of};
 use renamer::apply;
 use sl_base::Gate;
@@ -60,7 +60,9 @@ fn written_file<A: Arch>(
     let items = apply(alloc, problem, problem.items(), schedule)?;
     let times = times_of(alloc, problem, schedule)?;
     let plan = plan_of(alloc, setting.core, &items, schedule, &times)?;
-    let text = written_text(arch, alloc, setting.region, &items, &plan)?;
+    let program = Program { items };
+    let mut text = Vec::new(alloc);
+    print_region(arch, alloc, setting.region, &program, &plan, &mut text)?;
     Ok(text)
 }
 

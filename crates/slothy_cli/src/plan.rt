@@ -34,14 +34,15 @@ fn note_of(item: u16, unit: &str, cycle: u32, line: u32) -> Note
 
 // The first line of a plan.
 fn head_of(items: u16, cycles: u32, stalls: u32) -> Head
-    ensures told { result ≡ record { items = items; cycles = cycles; stalls = stalls } }
-    ensures whole { IsTrue
-        (is_whole_head (record { items = items; cycles = cycles; stalls = stalls })) }
+    ensures told { result ≡ spec.head_of items cycles stalls }
+    ensures whole { IsTrue (is_whole_head (spec.head_of items cycles stalls)) }
 {
     Head {
         items,
         cycles,
         stalls,
+        least: 1,
+        early: 0,
     }
 }
 

@@ -51,6 +51,7 @@ pub fn own_problem<A: Arch>(
         free: RegSet { bits: 0 },
         most: 0,
         budget: 0,
+        workers: 1,
     };
     region_problem(arch, alloc, setting, aim)
 }

@@ -5,7 +5,7 @@ use Rattle.race_pool.proofs.verdict.find_verdict.Given as goal
 
 abbrev pub invariant-loop-answer : goal.invariant-loop-answer
 invariant-loop-answer g l = record {
-  one : length l.workers ≡ 1;
+  kept : length l.workers ≡ length l.initial.workers;
   fits : All (g.F.Forest.fits l.forest) l.workers;
   within : l.level ≤ l.most;
   lower : (lower : ℕ) → lower < l.level → HaveNothing (λ t. g.F.Forest.outcome l.forest t lower) (g.F.Forest.tree_count l.forest);

@@ -10,5 +10,5 @@ use Rattle.slothy_cli.proofs.best.search_trees.Goals as goal
 pub returns : goal.returns
 returns g c =
     subst (λ (r : Result (List Choice) Stop). Gives stop_told (λ schedule. schedule.items) c.schedule_in.result r)
-    (sym (searched-few c.args.forest.now.problem c.args.most c.args.forest.now.budget c.requires.few ∙ ap (schedule_in c.args.most) c.in_ok-solution.ensures))
+    (sym (searched-few c.args.forest.now.problem c.args.aim.most c.args.forest.now.budget c.requires.few ∙ ap (schedule_in c.args.aim.most) c.in_ok-solution.ensures))
     c.schedule_in.ensures

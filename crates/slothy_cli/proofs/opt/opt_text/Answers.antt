@@ -85,4 +85,4 @@ returns-in-Err g c =
     let setting : Setting = setting_of c.args.setting in
     let aim : Aim = shown_aim c.args.aim in
     answers-stopped (region_problem language.isa aim setting) aim.most (region_searched language.isa aim setting) (FoundAnswers language aim setting) (stop_told c.in-Err.failure)
-    c.in-Err.ensures.answer c.in-Err.ensures.empty
+    c.in-Err.ensures.answer c.in-Err.ensures.out_of_reach

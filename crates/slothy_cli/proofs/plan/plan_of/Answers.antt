@@ -9,7 +9,7 @@ use Rattle.slothy_cli.proofs.plan.plan_of.Goals as goal
 
 pub returns-clause-whole : goal.returns-clause-whole
 returns-clause-whole c =
-    and_from (is_whole_head (record { items = length c.args.schedule.now; cycles = c.args.times.now.count; stalls = c.args.times.now.stalls }))
+    and_from (is_whole_head (spec.head_of (length c.args.schedule.now) c.args.times.now.count c.args.times.now.stalls))
     (list_all is_whole (spec.notes_of c.args.core.now c.args.items.now c.args.schedule.now c.args.times.now.cycles.items)) c.head_of.ensures.whole
     (ap (λ cycles. list_all is_whole (spec.notes_of c.args.core.now c.args.items.now c.args.schedule.now cycles)) (sym c.deref.ensures.value) ∙ c.in_ok-push_notes.ensures.whole)
 

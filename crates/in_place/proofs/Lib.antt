@@ -1,0 +1,10 @@
+pub mod Tiled
+pub mod Rows
+pub mod Before
+pub mod Expanded
+pub mod Entered
+pub mod Down
+pub mod Markers
+pub mod NewCut
+pub mod Right
+pub mod Read

@@ -1,0 +1,6 @@
+mod Moves
+mod Below
+mod Decided
+mod Strides
+mod Joined
+mod Settled

@@ -1,0 +1,13 @@
+pub mod Lists
+pub mod Least
+pub mod Swaps
+pub mod Moves
+pub mod Runs
+pub mod Rules
+pub mod Alive
+pub mod First
+pub mod Reduce
+pub mod Laws
+pub mod Looped
+pub mod Straight
+pub mod ForCallers

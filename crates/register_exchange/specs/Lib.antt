@@ -1,0 +1,2 @@
+pub mod AsGood
+pub mod Lost
